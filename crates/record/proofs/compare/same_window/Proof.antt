@@ -1,0 +1,24 @@
+use Rattle.record.proofs.Equality.{decides-number, decides-both, decides-as, decides-by, same-windows}
+use mathlib.Core.Path.{ap}
+use Rattle.record.specs.declared.window.Window.{Window}
+use borrow.Author.Needs.{needs}
+use Rattle.record.proofs.compare.same_window.Statement.{statement}
+use Rattle.record.proofs.compare.same_window.Tie as tie
+use Rattle.record.proofs.compare.same_window.Reads as reads
+use Rattle.record.proofs.compare.same_window.Lts as lts
+use Rattle.record.proofs.both.Reads as both-reads
+
+-- src/equality.rt:16:5
+both-requires : tie.Need-both-requires
+both-requires c κs = search needs
+
+-- src/equality.rt:13:1
+returns : tie.Need-returns
+returns c =
+    let x = c .before .before .before .before .before .args .a in
+    let y = c .before .before .before .before .before .args .b in
+    decides-as (λ h. same-windows x y (h .0) (h .1)) (λ e. (ap (λ (w : Window). w .start) e, ap (λ (w : Window). w .end) e))
+    (decides-by (c .both .ensures) (decides-both (decides-number (x .start) (y .start)) (decides-number (x .end) (y .end))))
+
+pub same-window-spec : {M : Type 1} → statement M
+same-window-spec = tie.close (tie.spec both-requires returns)

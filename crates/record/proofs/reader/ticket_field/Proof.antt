@@ -1,0 +1,41 @@
+use denote.Ref.{now}
+use native.Mathlib.Omega.{arith}
+use mathlib.Core.List.{List, [], _∷_}
+use Rattle.record.specs.TicketRecords.{ticketLayout}
+use Rattle.record.proofs.Fields.{entry-most, field-within, taken}
+use Rattle.record.proofs.TicketRecords.{readable-fixed}
+use borrow.Author.Needs.{needs}
+use Rattle.record.proofs.reader.ticket_field.Statement.{statement}
+use Rattle.record.proofs.reader.ticket_field.Tie as tie
+use Rattle.record.proofs.reader.ticket_field.Reads as reads
+use Rattle.record.proofs.reader.ticket_field.Lts as lts
+use Rattle.record.proofs.take_field.Reads as take-field-reads
+
+-- src/reader.rt:91:33
+mul-take-field : tie.Need-mul-take-field
+mul-take-field c = search needs
+
+-- src/reader.rt:91:33
+array-read-take-field : tie.Need-array-read-take-field
+array-read-take-field c = search needs
+
+-- src/reader.rt:91:5
+take-field-requires : tie.Need-take-field-requires
+take-field-requires c κs =
+    let a = c .before .args in
+    let p = c .before .pre in (
+      search needs,
+      entry-most (2 ∷ 4 ∷ 1 ∷ 1 ∷ 4 ∷ 4 ∷ 2 ∷ 2 ∷ 1 ∷ []) (a .bit),
+      field-within ticketLayout (now (a .bytes)) (a .map) (a .bit) 8 (a .at) (p .0) (p .0) (p .1) (readable-fixed (now (a .bytes)) (a .map) (p .2)),
+    )
+
+-- src/reader.rt:87:1
+returns : tie.Need-returns
+returns c =
+    let a = c .before .before .args in
+    let p = c .before .before .pre in
+    taken ticketLayout (now (a .bytes)) (a .map) (a .bit) (a .at) (c .take-field .result) (p .0) (p .1) (c .take-field .ensures)
+
+pub ticket-field-spec : {M : Type 1} → statement M
+ticket-field-spec =
+    tie.close (tie.spec mul-take-field array-read-take-field take-field-requires returns)

@@ -1,0 +1,86 @@
+use Prim.Native.Nat.{suc, _+_, _≤_, _-_}
+use mathlib.Core.Path.{_≡_, refl, sym, _∙_}
+use native.Mathlib.Omega.{arith}
+use native.Mathlib.Numerals.{add-one}
+use lib.ListN.{length, take, length-set}
+use lib.Seq.{sets, length-take-le}
+use denote.Ref.{now}
+use Rattle.record.proofs.Output.{copy-step}
+use borrow.Author.Needs.{needs}
+use Rattle.record.proofs.writer.copy.Statement.{statement}
+use Rattle.record.proofs.writer.copy.Tie as tie
+use Rattle.record.proofs.writer.copy.Reads as reads
+use Rattle.record.proofs.writer.copy.Lts as lts
+
+abbrev Inv-loop : tie.InvT-loop
+Inv-loop out₀ at src n i₀ out i = (i ≤ n) × (length out ≡ length out₀) × (out ≡ sets out₀ at (take i src))
+
+abbrev μ-loop : tie.MeasureT-loop
+μ-loop out₀ at src n i₀ out i = n - i
+
+-- src/writer.rt:89:5
+loop-holds : tie.Need-loop-holds Inv-loop μ-loop
+loop-holds c = (search needs, refl, refl)
+
+-- src/writer.rt:90:23
+shared-slice-read-out : tie.Need-shared-slice-read-out Inv-loop μ-loop
+shared-slice-read-out c = search needs
+
+-- src/writer.rt:90:13
+add-out : tie.Need-add-out Inv-loop μ-loop
+add-out c = search needs
+
+-- src/writer.rt:90:9
+slice-write-out : tie.Need-slice-write-out Inv-loop μ-loop
+slice-write-out c = search needs
+
+-- src/writer.rt:89:9
+add-i : tie.Need-add-i Inv-loop μ-loop
+add-i c = search needs
+
+-- src/writer.rt:89:5
+loop-less : tie.Need-loop-less Inv-loop μ-loop
+loop-less c = search needs
+
+-- src/writer.rt:89:5
+loop-again : tie.Need-loop-again Inv-loop μ-loop
+loop-again c =
+    let l = c .before .before .loop in
+    let a = c .before .before .before .args in
+    rw add-one (
+      search needs,
+      simp length-set (l .inv .1),
+      rw (l .inv .2) (copy-step (now (a .out)) (now (a .src)) (a .at) (l .i) (search needs)),
+    )
+
+-- src/writer.rt:92:5
+add-result : tie.Need-add-result Inv-loop μ-loop
+add-result c = search needs
+
+-- src/writer.rt:84:1
+same-length : tie.Need-same-length Inv-loop μ-loop
+same-length c = search needs
+
+-- src/writer.rt:84:1
+returns : tie.Need-returns Inv-loop μ-loop
+returns c =
+    let e : c .before .loop .i ≡ c .before .before .args .n = omega arith in
+    let le : c .before .before .args .n ≤ length (now (c .before .before .args .src)) = omega arith in
+    (record { put = rw (sym e) (c .before .loop .inv .2); past = rw length-take-le }, search needs)
+
+pub copy-spec : {M : Type 1} → statement M
+copy-spec =
+    tie.close
+    (tie.spec
+    Inv-loop
+    μ-loop
+    loop-holds
+    shared-slice-read-out
+    add-out
+    slice-write-out
+    add-i
+    loop-less
+    loop-again
+    add-result
+    same-length
+    returns)

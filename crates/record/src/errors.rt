@@ -1,0 +1,62 @@
+// The refusals, by RFC 4120's names (document 01, "Error numbers").
+ghost use mathlib.Core.Path.{_≡_};
+ghost use Rattle.record.specs.Errors.{numberOf, answerNumber};
+
+pub enum Error {
+    KDC_ERR_C_PRINCIPAL_UNKNOWN,
+    KDC_ERR_S_PRINCIPAL_UNKNOWN,
+    KDC_ERR_PRINCIPAL_NOT_UNIQUE,
+    KDC_ERR_NEVER_VALID,
+    KDC_ERR_POLICY,
+    KDC_ERR_BADOPTION,
+    KDC_ERR_CLIENT_REVOKED,
+    KDC_ERR_SERVER_NOMATCH,
+    KDC_ERR_SVC_UNAVAILABLE,
+    KRB_AP_ERR_TKT_EXPIRED,
+    KRB_AP_ERR_TKT_NYV,
+    KRB_AP_ERR_NOT_US,
+    KRB_AP_ERR_MODIFIED,
+    KRB_ERR_RESPONSE_TOO_BIG,
+    KRB_ERR_GENERIC,
+    KRB_ERR_FIELD_TOOLONG,
+}
+
+// What a reader answers; the value that it read stands beside it.
+pub enum Answer {
+    Accepted,
+    Refused(Error),
+}
+
+// The number of a refusal.
+pub fn error_number(error: Error) -> u32
+    ensures { λ r. ⌜ r ≡ numberOf error ⌝ }
+{
+    match error {
+        Error::KDC_ERR_C_PRINCIPAL_UNKNOWN => 6,
+        Error::KDC_ERR_S_PRINCIPAL_UNKNOWN => 7,
+        Error::KDC_ERR_PRINCIPAL_NOT_UNIQUE => 8,
+        Error::KDC_ERR_NEVER_VALID => 11,
+        Error::KDC_ERR_POLICY => 12,
+        Error::KDC_ERR_BADOPTION => 13,
+        Error::KDC_ERR_CLIENT_REVOKED => 18,
+        Error::KDC_ERR_SERVER_NOMATCH => 26,
+        Error::KDC_ERR_SVC_UNAVAILABLE => 29,
+        Error::KRB_AP_ERR_TKT_EXPIRED => 32,
+        Error::KRB_AP_ERR_TKT_NYV => 33,
+        Error::KRB_AP_ERR_NOT_US => 35,
+        Error::KRB_AP_ERR_MODIFIED => 41,
+        Error::KRB_ERR_RESPONSE_TOO_BIG => 52,
+        Error::KRB_ERR_GENERIC => 60,
+        Error::KRB_ERR_FIELD_TOOLONG => 61,
+    }
+}
+
+// The number of an answer, 0 where it is no refusal.
+pub fn answer_number(answer: Answer) -> u32
+    ensures { λ r. ⌜ r ≡ answerNumber answer ⌝ }
+{
+    match answer {
+        Answer::Accepted => 0,
+        Answer::Refused(error) => error_number(error),
+    }
+}

@@ -1,0 +1,107 @@
+// Layer 1, the record layer: ticket values, ticket records and requests (document 01, "Ticket records" and "Requests").
+// This file holds what both records are made of: a 16-bit map, and the fields of its bits, taken one after the other at a cursor.
+mod compare;
+mod errors;
+mod reader;
+mod request;
+mod ticket;
+mod window;
+mod writer;
+
+pub use compare::same_ticket;
+pub use errors::Answer;
+pub use errors::Error;
+pub use errors::answer_number;
+pub use errors::error_number;
+pub use reader::Reading;
+pub use reader::read_ticket;
+pub use request::Kind;
+pub use request::Request;
+pub use request::RequestReading;
+pub use request::Span;
+pub use request::read_request;
+pub use ticket::Origin;
+pub use ticket::Ticket;
+pub use window::Window;
+pub use writer::Written;
+pub use writer::write_ticket;
+ghost use mathlib.Core.Path.{_≡_};
+ghost use mathlib.Core.Bool.{_&&_};
+ghost use Prim.Native.Nat.{_+_, _^_, _≤_, _<_};
+ghost use lib.ListN.{length, getD};
+ghost use Rattle.record.specs.Fields.{presentIn, pick, numberAt, mapOf, TakenAt};
+
+// A field as the cursor finds it: its number, 0 where its bit does not stand, and the position past it.
+struct Field {
+    value: u32,
+    next: usize,
+}
+
+// Whether both hold.
+fn both(a: bool, b: bool) -> bool
+    ensures { λ r. ⌜ r ≡ (a && b) ⌝ }
+{
+    if a { b } else { false }
+}
+
+// The byte at a position, 0 past the end.
+fn byte(bytes: &[u8], at: usize) -> u8
+    ensures { λ r. ⌜ r ≡ getD (now (bytes .entry)) at 0 ⌝ }
+{
+    if at < bytes.len() { bytes[at] } else { 0 }
+}
+
+// Whether a map has a bit.
+fn present(map: u16, bit: usize) -> bool
+    requires { ⌜ bit < 16 ⌝ }
+    ensures { λ r. ⌜ r ≡ presentIn map bit ⌝ }
+{
+    (map >> bit) % 2 == 1
+}
+
+// The map in front of a record.
+fn map_of(bytes: &[u8]) -> u16
+    ensures { λ r. ⌜ r ≡ mapOf (now (bytes .entry)) ⌝ }
+{
+    byte(bytes, 0) as u16 * 256 + byte(bytes, 1) as u16
+}
+
+// The big-endian number of some bytes.
+fn number(bytes: &[u8], at: usize, width: usize) -> u32
+    requires { ⌜ (at + width ≤ length (now bytes)) × (width ≤ 4) ⌝ }
+    ensures exact { λ r. ⌜ r ≡ numberAt (now (bytes .entry)) at width ⌝ }
+    ensures bounded { λ r. ⌜ r < 256 ^ width ⌝ }
+{
+    let mut sum: u32 = 0;
+    for i in 0..width {
+        sum = sum * 256 + bytes[at + i] as u32;
+    }
+    sum
+}
+
+// The field of a map bit that is so many bytes wide, at the cursor.
+fn take_field(bytes: &[u8], map: u16, bit: usize, width: usize, at: usize) -> Field
+    requires { ⌜ (bit < 16) × (width ≤ 4) × (at + pick (presentIn map bit) width 0 ≤ length (now bytes)) ⌝ }
+    ensures { λ r. ⌜ TakenAt (now (bytes .entry)) map bit width at r ⌝ }
+{
+    if present(map, bit) {
+        Field {
+            value: number(bytes, at, width),
+            next: at + width,
+        }
+    } else {
+        Field { value: 0, next: at }
+    }
+}
+
+// A field of one byte at the cursor, 0 where its bit does not stand or the byte is missing.
+fn byte_field(bytes: &[u8], map: u16, bit: usize, at: usize) -> u8
+    requires { ⌜ bit < 16 ⌝ }
+    ensures { λ r. ⌜ r ≡ pick (presentIn map bit) (getD (now (bytes .entry)) at 0) 0 ⌝ }
+{
+    if present(map, bit) {
+        byte(bytes, at)
+    } else {
+        0
+    }
+}

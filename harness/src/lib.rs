@@ -1,0 +1,3 @@
+//! A second implementation of document 01, section by section, to check the proved service against.
+
+pub mod record;
