@@ -1,6 +1,9 @@
 pub mod Bools
+pub mod Validity
 pub mod Fields
 pub mod Equality
 pub mod TicketRecords
 pub mod Output
+pub mod RoundTrip
 pub mod Requests
+pub mod Cases

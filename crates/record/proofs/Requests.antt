@@ -3,7 +3,7 @@
 use mathlib.Core.Path.{_≡_, refl, sym, ap, _∙_, subst}
 use mathlib.Core.Bool.{Bool, true, false, _&&_, false≢true}
 use mathlib.Core.List.{List, [], _∷_}
-use Prim.Native.Nat.{ℕ, zero, suc, _+_, _*_, _/_, _%_, _^_, _≤_, _<_}
+use Prim.Native.Nat.{ℕ, zero, suc, _+_, _*_, _/_, _%_, _^_, _≤_, _<_, zero-le}
 use native.Mathlib.Nat.{add-zero, add-assoc, le-trans}
 use native.Mathlib.Omega.{arith}
 use lib.ListN.{length, getD, take, drop}
@@ -12,14 +12,14 @@ use lib.Bits.{bitAnd, and-le-l, and-le-r}
 use borrow.Author.Tests.{eqb-true, eq-eqb, ne-eqb}
 use Rattle.record.specs.Fields.{pick, presentIn, numberAt, mapOf, Layout, widthOf, sizeAt, offsetOf, fieldOf}
 use Rattle.record.specs.TicketRecords.{accepted, blankTicket, readTicket}
-use Rattle.record.specs.Requests.{requestLayout, neededBits, allowedBits, mapFits, pathIf, pickPath, kindPath, pathOf, spanOf, partOf, embeddedIn, embeddedOf, hasTicket, wholeRequest, requestAs, refusedRequest, requestFor, readRequest, SpanTaken}
+use Rattle.record.specs.Requests.{requestLayout, neededBits, allowedBits, mapFits, pathIf, pickPath, kindPath, pathOf, spanOf, partOf, embeddedIn, embeddedOf, hasTicket, wholeRequest, requestAs, refusedRequest, pickRequest, requestFor, readRequest, SpanTaken}
 use Rattle.record.specs.declared.errors.Answer.the-variants.{Accepted, Refused}
 use Rattle.record.specs.declared.request.Kind.{Kind}
 use Rattle.record.specs.declared.request.Path.{Path}
 use Rattle.record.specs.declared.request.Path.the-variants.{Decide, Refuse}
 use Rattle.record.specs.declared.request.Span.{Span}
 use Rattle.record.specs.declared.request.Counted.{Counted}
-use Rattle.record.specs.declared.request.RequestReading.{RequestReading}
+use Rattle.record.specs.declared.request.Request.{Request}
 use Rattle.record.proofs.Bools.{and-left, and-right}
 use Rattle.record.proofs.Fields.{number-one, offset-mono, offset-counted, offset-fixed, offset-first}
 
@@ -147,6 +147,10 @@ pub not-whole : (s : List ℕ) (m : ℕ) → (length s ≡ offsetOf requestLayou
 unfolding wholeRequest
 not-whole s m n = rw (ne-eqb (length s) (offsetOf requestLayout s m 8) n)
 
+pub whole-length : (s : List ℕ) (m : ℕ) → wholeRequest s m ≡ true → length s ≡ offsetOf requestLayout s m 8
+unfolding wholeRequest
+whole-length s m h = eqb-true (length s) (offsetOf requestLayout s m 8) (and-left (eqb (length s) (offsetOf requestLayout s m 8)) _ h)
+
 pub request-yes : (s : List ℕ) (m : ℕ) (k : Kind) → wholeRequest s m ≡ true
     → record { answer = Accepted; request = requestAs s m k } ≡ requestFor s m (Decide k)
 unfolding requestFor
@@ -176,3 +180,27 @@ read-short s m e l = by (pathOf (fieldOf requestLayout s m 0) m) refl
     by (Decide k) h =
         request-no s m k (not-whole s m (λ q. omega (arith, offset-mono requestLayout s m 4 8 (omega arith))))
         ∙ read-along s m (fieldOf requestLayout s m 0) (Decide k) e refl h
+
+-- both names of a request lie within the bytes
+abbrev NamesWithin : List ℕ → Request → Type 0
+NamesWithin s q = (q .user .at + q .user .len ≤ length s) × (q .service .at + q .service .len ≤ length s)
+
+names-whole : (s : List ℕ) (m : ℕ) (k : Kind) → length s ≡ offsetOf requestLayout s m 8 → NamesWithin s (requestAs s m k)
+names-whole s m k h =
+    let e : offsetOf requestLayout s m 8 ≤ length s = omega arith in
+    (span-within s m 6 (omega arith) refl (omega arith) e, span-within s m 7 (omega arith) refl (omega arith) e)
+
+names-along : (s : List ℕ) (m : ℕ) (p : Path) → NamesWithin s (requestFor s m p .request)
+unfolding requestFor
+names-along s m Refuse = (zero-le, zero-le)
+names-along s m (Decide k) = by (wholeRequest s m) (whole-length s m)
+  where
+    by : (p : Bool) → (p ≡ true → length s ≡ offsetOf requestLayout s m 8)
+        → NamesWithin s (pickRequest p (record { answer = Accepted; request = requestAs s m k }) refusedRequest .request)
+    by true h = names-whole s m k (h refl)
+    by false h = (zero-le, zero-le)
+
+-- both names of what the reader gives lie within the bytes
+pub names-within : (s : List ℕ) → NamesWithin s (readRequest s .request)
+unfolding readRequest
+names-within s = names-along s (mapOf s) (pathOf (fieldOf requestLayout s (mapOf s) 0) (mapOf s))

@@ -7,7 +7,13 @@ use mathlib.Core.List.{List, [], _∷_, _++_}
 use mathlib.Core.Bool.{Bool, true, false}
 use lib.ListN.{length, getD}
 use lib.Dec.{leb, eqb}
+use mir.Syntax.{w8}
+use mir.Val.{Fits}
 use Rattle.record.specs.declared.Field.{Field}
+
+-- every entry of s is a byte, as it is of every slice of bytes
+abbrev pub Bytes : List ℕ → Type 0
+Bytes s = (i : ℕ) → Fits w8 (getD s i 0)
 
 abbrev pub pick : Bool → ℕ → ℕ → ℕ
 pick true a b = a

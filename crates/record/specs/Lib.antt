@@ -1,5 +1,5 @@
 pub mod Errors
-pub mod Window
+pub mod Validity
 pub mod Fields
 pub mod TicketRecords
 pub mod Equality

@@ -8,7 +8,9 @@ use mathlib.Core.Path.{_≡_}
 use lib.ListN.{length, take, drop, replicate}
 use lib.Seq.{sets}
 use lib.Dec.{leb, eqb}
-use Rattle.record.specs.Fields.{Layout, pick, pickBool, pickList, presentIn, bigEndian, run, mapOf, offsetOf, fieldOf, fieldBytes}
+use mir.Syntax.{w8, w16, w32}
+use mir.Val.{Fits}
+use Rattle.record.specs.Fields.{Bytes, Layout, pick, pickBool, pickList, presentIn, bigEndian, run, mapOf, offsetOf, fieldOf, fieldBytes}
 use Rattle.record.specs.declared.window.Window.{Window}
 use Rattle.record.specs.declared.ticket.Origin.{Origin}
 use Rattle.record.specs.declared.ticket.Origin.the-variants.{Initial, Direct, SelfIssued, Delegated}
@@ -38,6 +40,10 @@ originMap (Delegated t e) = 0x01FF
 
 abbrev pub mapFor : Origin → Bool → ℕ
 mapFor o b = pick b (originMap o + 0x0200) (originMap o)
+
+-- the map of a ticket's record
+abbrev pub mapOfTicket : Ticket → ℕ
+mapOfTicket t = mapFor (t .origin) (t .barred)
 
 -- the maps of the four origins, without and with the barred mark
 unfoldable pub knownMap : ℕ → Bool
@@ -138,6 +144,31 @@ serviceFits m x = pickBool (presentIn m 3) true (eqb x 0)
 unfoldable pub wellFormed : Ticket → ℕ → Bool
 wellFormed t m = serviceFits m (t .service) && hopsFit m (t .hops) && allZero (drop (t .hops) (t .trail))
 
+-- every field of t fits its machine type, as it does of every ticket value of the code
+pub record InRange (t : Ticket) : Type 0 where
+  pub number : Fits w16 (t .number)
+  pub flags : Fits w32 (t .flags)
+  pub client : Fits w8 (t .client)
+  pub service : Fits w8 (t .service)
+  pub start : Fits w32 (t .window .start)
+  pub end : Fits w32 (t .window .end)
+  pub tgt : Fits w16 (tgtOf (t .origin))
+  pub evidence : Fits w16 (evidenceOf (t .origin))
+  pub places : length (t .trail) ≡ 8
+  pub trail : Bytes (t .trail)
+  pub hops : Fits w8 (t .hops)
+
+-- the reader gives t: some bytes are read as t
+pub record Given (t : Ticket) : Type 0 where
+  pub bytes : List ℕ
+  pub are-bytes : Bytes bytes
+  pub read : readTicket bytes ≡ accepted t
+
+-- the writer accepts t: it is a machine value, and the writer does not answer 60
+pub record Writable (t : Ticket) : Type 0 where
+  pub in-range : InRange t
+  pub well-formed : wellFormed t (mapOfTicket t) ≡ true
+
 -- the fields of bit k and the next
 unfoldable pub pairBytes : ℕ → ℕ → ℕ → ℕ → List ℕ
 pairBytes m k x y = fieldBytes ticketLayout m k x ++ fieldBytes ticketLayout m (k + 1) y
@@ -155,9 +186,6 @@ unfoldable pub tailBytes : Ticket → ℕ → List ℕ
 tailBytes t m =
     pairBytes m 4 (t .window .start) (t .window .end) ++ pairBytes m 6 (tgtOf (t .origin)) (evidenceOf (t .origin))
     ++ trailBytes m (t .trail) (t .hops)
-
-abbrev pub mapOfTicket : Ticket → ℕ
-mapOfTicket t = mapFor (t .origin) (t .barred)
 
 unfoldable pub recordAs : Ticket → ℕ → List ℕ
 recordAs t m = headBytes t m ++ tailBytes t m

@@ -1,7 +1,7 @@
 // When a ticket is valid (document 01, "Decisions": "It is valid while start ≤ now < end").
 use crate::both;
 ghost use mathlib.Core.Path.{_≡_};
-ghost use Rattle.record.specs.Window.{notYet, ended, validAt, untilOf};
+ghost use Rattle.record.specs.Validity.{notYet, ended, validAt, untilOf};
 
 // The seconds from which, and before which, a ticket is valid.
 pub struct Window {

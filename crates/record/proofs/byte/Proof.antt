@@ -4,20 +4,11 @@ use denote.Ref.{now}
 use borrow.Author.Needs.{needs}
 use Rattle.record.proofs.byte.Statement.{statement}
 use Rattle.record.proofs.byte.Tie as tie
-use Rattle.record.proofs.byte.Reads as reads
-use Rattle.record.proofs.byte.Lts as lts
 
--- src/lib.rt:51:27
-shared-slice-read-result : tie.Need-shared-slice-read-result
-shared-slice-read-result c = search needs
-
--- src/lib.rt:48:1
-returns : tie.Need-returns
-returns c = search needs
-
--- src/lib.rt:48:1
 returns-2 : tie.Need-returns-2
 returns-2 c = sym (List·getD-eq-default (now (c .before .args .bytes)) 0 (c .if1 .left))
 
 pub byte-spec : {M : Type 1} → statement M
-byte-spec = tie.close (tie.spec shared-slice-read-result returns returns-2)
+byte-spec =
+    tie.close
+    (tie.spec (λ c. search needs) (λ c. search needs) returns-2)

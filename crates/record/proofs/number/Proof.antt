@@ -7,8 +7,6 @@ use Rattle.record.proofs.Fields.{room, longer-number}
 use borrow.Author.Needs.{needs}
 use Rattle.record.proofs.number.Statement.{statement}
 use Rattle.record.proofs.number.Tie as tie
-use Rattle.record.proofs.number.Reads as reads
-use Rattle.record.proofs.number.Lts as lts
 
 abbrev Inv-loop : tie.InvT-loop
 Inv-loop bytes at width sum₀ i₀ sum i = (i ≤ width) × (sum ≡ numberAt bytes at i) × (sum < 256 ^ i)
@@ -16,40 +14,19 @@ Inv-loop bytes at width sum₀ i₀ sum i = (i ≤ width) × (sum ≡ numberAt b
 abbrev μ-loop : tie.MeasureT-loop
 μ-loop bytes at width sum₀ i₀ sum i = width - i
 
--- src/lib.rt:76:5
 loop-holds : tie.Need-loop-holds Inv-loop μ-loop
 unfolding numberAt
 loop-holds c = (search needs, refl, search needs)
 
--- src/lib.rt:77:15
 mul-sum : tie.Need-mul-sum Inv-loop μ-loop
 mul-sum c = omega (arith, room (c .before .loop .sum) (c .before .loop .i) (c .before .loop .inv .2) (omega arith))
 
--- src/lib.rt:77:33
-add-sum : tie.Need-add-sum Inv-loop μ-loop
-add-sum c = search needs
-
--- src/lib.rt:77:27
-shared-slice-read-sum : tie.Need-shared-slice-read-sum Inv-loop μ-loop
-shared-slice-read-sum c = search needs
-
--- src/lib.rt:77:27
 cast-sum : tie.Need-cast-sum Inv-loop μ-loop
 cast-sum c = omega (arith, c .shared-slice-known .given (c .before .before .before .args .at + c .before .before .loop .i))
 
--- src/lib.rt:77:15
 add-sum-2 : tie.Need-add-sum-2 Inv-loop μ-loop
 add-sum-2 c = omega (arith, c .shared-slice-known .given (c .before .before .before .args .at + c .before .before .loop .i), room (c .before .before .loop .sum) (c .before .before .loop .i) (c .before .before .loop .inv .2) (omega arith))
 
--- src/lib.rt:76:9
-add-i : tie.Need-add-i Inv-loop μ-loop
-add-i c = search needs
-
--- src/lib.rt:76:5
-loop-less : tie.Need-loop-less Inv-loop μ-loop
-loop-less c = search needs
-
--- src/lib.rt:76:5
 loop-again : tie.Need-loop-again Inv-loop μ-loop
 unfolding numberAt
 loop-again c =
@@ -57,7 +34,6 @@ loop-again c =
     rw add-one
     (search needs, (cc), longer-number (l .sum) _ (l .i) (l .inv .2) (omega (arith, c .shared-slice-known .given (c .before .before .before .args .at + l .i))))
 
--- src/lib.rt:70:1
 returns : tie.Need-returns Inv-loop μ-loop
 returns c =
     let e : c .before .loop .i ≡ c .before .before .args .width = omega arith in
@@ -66,16 +42,5 @@ returns c =
 pub number-spec : {M : Type 1} → statement M
 number-spec =
     tie.close
-    (tie.spec
-    Inv-loop
-    μ-loop
-    loop-holds
-    mul-sum
-    add-sum
-    shared-slice-read-sum
-    cast-sum
-    add-sum-2
-    add-i
-    loop-less
-    loop-again
-    returns)
+    (tie.spec Inv-loop μ-loop loop-holds mul-sum (λ c. search needs) (λ c. search needs) cast-sum add-sum-2
+    (λ c. search needs) (λ c. search needs) loop-again returns)

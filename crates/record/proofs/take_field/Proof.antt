@@ -7,36 +7,23 @@ use Rattle.record.specs.Fields.{presentIn}
 use borrow.Author.Needs.{needs}
 use Rattle.record.proofs.take_field.Statement.{statement}
 use Rattle.record.proofs.take_field.Tie as tie
-use Rattle.record.proofs.take_field.Reads as reads
-use Rattle.record.proofs.take_field.Lts as lts
-use Rattle.record.proofs.number.Reads as number-reads
-use Rattle.record.proofs.present.Reads as present-reads
 
--- src/lib.rt:87:8
-present-requires : tie.Need-present-requires
-present-requires c κs = search needs
-
--- src/lib.rt:89:20
 number-requires : tie.Need-number-requires
 number-requires c κs =
     let a = c .before .before .before .args in
     (there (presentIn (a .map) (a .bit)) (a .at) (a .width) (length (now (a .bytes))) (sym (c .before .present .ensures) ∙ c .if1 .taken) (c .before .before .before .pre .2), search needs)
 
--- src/lib.rt:90:19
-add-t9 : tie.Need-add-t9
-add-t9 c = search needs
-
--- src/lib.rt:83:1
 returns : tie.Need-returns
 returns c =
     let e = sym (c .before .before .present .ensures) ∙ c .before .if1 .taken in
     record { value = rw e (c .number .ensures .0); next = rw e; fits = c .number .ensures .1 }
 
--- src/lib.rt:83:1
 returns-2 : tie.Need-returns-2
 returns-2 c =
     let e = sym (c .before .present .ensures) ∙ c .if1 .left in
     record { value = rw e; next = rw (e, add-zero); fits = one-le-pow (c .before .before .before .args .width) 256 (zero-lt-suc 255) }
 
 pub take-field-spec : {M : Type 1} → statement M
-take-field-spec = tie.close (tie.spec present-requires number-requires add-t9 returns returns-2)
+take-field-spec =
+    tie.close
+    (tie.spec (λ c κs. search needs) number-requires (λ c. search needs) returns returns-2)

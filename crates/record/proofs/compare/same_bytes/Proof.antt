@@ -10,8 +10,6 @@ use Rattle.record.proofs.Equality.{decides-yes, decides-no}
 use borrow.Author.Needs.{needs}
 use Rattle.record.proofs.compare.same_bytes.Statement.{statement}
 use Rattle.record.proofs.compare.same_bytes.Tie as tie
-use Rattle.record.proofs.compare.same_bytes.Reads as reads
-use Rattle.record.proofs.compare.same_bytes.Lts as lts
 
 abbrev Inv-loop : tie.InvT-loop
 Inv-loop a b i₀ i = (k : ℕ) → k < i → getD a k 0 ≡ getD b k 0
@@ -19,39 +17,18 @@ Inv-loop a b i₀ i = (k : ℕ) → k < i → getD a k 0 ≡ getD b k 0
 abbrev μ-loop : tie.MeasureT-loop
 μ-loop a b i₀ i = length a - i
 
--- src/equality.rt:34:9
 returns : tie.Need-returns Inv-loop μ-loop
 returns c = decides-no (λ e. c .if1 .taken (ap length e))
 
--- src/equality.rt:37:5
 loop-holds : tie.Need-loop-holds Inv-loop μ-loop
 loop-holds c = below-none _
 
--- src/equality.rt:38:12
-shared-slice-read-if2 : tie.Need-shared-slice-read-if2 Inv-loop μ-loop
-shared-slice-read-if2 c = search needs
-
--- src/equality.rt:38:20
-shared-slice-read-if2-2 : tie.Need-shared-slice-read-if2-2 Inv-loop μ-loop
-shared-slice-read-if2-2 c = search needs
-
--- src/equality.rt:39:13
 returns-2 : tie.Need-returns-2 Inv-loop μ-loop
 returns-2 c = decides-no (λ e. c .if2 .taken (ap (λ (l : List ℕ). getD l (c .before .before .before .before .loop .i) 0) e))
 
--- src/equality.rt:41:9
-add-i : tie.Need-add-i Inv-loop μ-loop
-add-i c = search needs
-
--- src/equality.rt:37:5
-loop-less : tie.Need-loop-less Inv-loop μ-loop
-loop-less c = search needs
-
--- src/equality.rt:37:5
 loop-again : tie.Need-loop-again Inv-loop μ-loop
 loop-again c = below-more _ _ (c .before .before .before .before .loop .inv) (c .if2 .left)
 
--- src/equality.rt:30:1
 returns-3 : tie.Need-returns-3 Inv-loop μ-loop
 returns-3 c =
     let a = c .before .before .before .args in
@@ -60,15 +37,5 @@ returns-3 c =
 pub same-bytes-spec : {M : Type 1} → statement M
 same-bytes-spec =
     tie.close
-    (tie.spec
-    Inv-loop
-    μ-loop
-    returns
-    loop-holds
-    shared-slice-read-if2
-    shared-slice-read-if2-2
-    returns-2
-    add-i
-    loop-less
-    loop-again
-    returns-3)
+    (tie.spec Inv-loop μ-loop returns loop-holds (λ c. search needs) (λ c. search needs) returns-2 (λ c. search needs)
+    (λ c. search needs) loop-again returns-3)

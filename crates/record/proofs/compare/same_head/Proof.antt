@@ -3,27 +3,7 @@ use Rattle.record.proofs.Equality.{decides-number, decides-bool, decide
 use borrow.Author.Needs.{needs}
 use Rattle.record.proofs.compare.same_head.Statement.{statement}
 use Rattle.record.proofs.compare.same_head.Tie as tie
-use Rattle.record.proofs.compare.same_head.Reads as reads
-use Rattle.record.proofs.compare.same_head.Lts as lts
-use Rattle.record.proofs.both.Reads as both-reads
 
--- src/equality.rt:60:9
-both-requires : tie.Need-both-requires
-both-requires c κs = search needs
-
--- src/equality.rt:62:13
-both-requires-2 : tie.Need-both-requires-2
-both-requires-2 c κs = search needs
-
--- src/equality.rt:61:9
-both-requires-3 : tie.Need-both-requires-3
-both-requires-3 c κs = search needs
-
--- src/equality.rt:59:5
-both-requires-4 : tie.Need-both-requires-4
-both-requires-4 c κs = search needs
-
--- src/equality.rt:56:1
 returns : tie.Need-returns
 returns c =
     let x = c .before .before .before .before .before .before .before .before .before .before .before .before .before .before .args .a in
@@ -41,4 +21,5 @@ returns c =
 
 pub same-head-spec : {M : Type 1} → statement M
 same-head-spec =
-    tie.close (tie.spec both-requires both-requires-2 both-requires-3 both-requires-4 returns)
+    tie.close
+    (tie.spec (λ c κs. search needs) (λ c κs. search needs) (λ c κs. search needs) (λ c κs. search needs) returns)

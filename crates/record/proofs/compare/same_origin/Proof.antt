@@ -4,46 +4,7 @@ use Rattle.record.proofs.Equality.{decides-number, decides-both, decide
 use borrow.Author.Needs.{needs}
 use Rattle.record.proofs.compare.same_origin.Statement.{statement}
 use Rattle.record.proofs.compare.same_origin.Tie as tie
-use Rattle.record.proofs.compare.same_origin.Reads as reads
-use Rattle.record.proofs.compare.same_origin.Lts as lts
-use Rattle.record.proofs.both.Reads as both-reads
-use Rattle.record.proofs.ticket.evidence_of.Reads as evidence-of-reads
-use Rattle.record.proofs.ticket.origin_map.Reads as origin-map-reads
-use Rattle.record.proofs.ticket.tgt_of.Reads as tgt-of-reads
 
--- src/equality.rt:24:9
-origin-map-requires : tie.Need-origin-map-requires
-origin-map-requires c κs = search needs
-
--- src/equality.rt:24:26
-origin-map-requires-2 : tie.Need-origin-map-requires-2
-origin-map-requires-2 c κs = search needs
-
--- src/equality.rt:25:14
-tgt-of-requires : tie.Need-tgt-of-requires
-tgt-of-requires c κs = search needs
-
--- src/equality.rt:25:27
-tgt-of-requires-2 : tie.Need-tgt-of-requires-2
-tgt-of-requires-2 c κs = search needs
-
--- src/equality.rt:25:38
-evidence-of-requires : tie.Need-evidence-of-requires
-evidence-of-requires c κs = search needs
-
--- src/equality.rt:25:56
-evidence-of-requires-2 : tie.Need-evidence-of-requires-2
-evidence-of-requires-2 c κs = search needs
-
--- src/equality.rt:25:9
-both-requires : tie.Need-both-requires
-both-requires c κs = search needs
-
--- src/equality.rt:23:5
-both-requires-2 : tie.Need-both-requires-2
-both-requires-2 c κs = search needs
-
--- src/equality.rt:20:1
 returns : tie.Need-returns
 returns c =
     let x = c .before .before .before .before .before .before .before .before .args .a in
@@ -66,13 +27,5 @@ returns c =
 pub same-origin-spec : {M : Type 1} → statement M
 same-origin-spec =
     tie.close
-    (tie.spec
-    origin-map-requires
-    origin-map-requires-2
-    tgt-of-requires
-    tgt-of-requires-2
-    evidence-of-requires
-    evidence-of-requires-2
-    both-requires
-    both-requires-2
-    returns)
+    (tie.spec (λ c κs. search needs) (λ c κs. search needs) (λ c κs. search needs) (λ c κs. search needs)
+    (λ c κs. search needs) (λ c κs. search needs) (λ c κs. search needs) (λ c κs. search needs) returns)

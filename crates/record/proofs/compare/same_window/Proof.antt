@@ -4,15 +4,7 @@ use Rattle.record.specs.declared.window.Window.{Window}
 use borrow.Author.Needs.{needs}
 use Rattle.record.proofs.compare.same_window.Statement.{statement}
 use Rattle.record.proofs.compare.same_window.Tie as tie
-use Rattle.record.proofs.compare.same_window.Reads as reads
-use Rattle.record.proofs.compare.same_window.Lts as lts
-use Rattle.record.proofs.both.Reads as both-reads
 
--- src/equality.rt:16:5
-both-requires : tie.Need-both-requires
-both-requires c κs = search needs
-
--- src/equality.rt:13:1
 returns : tie.Need-returns
 returns c =
     let x = c .before .before .before .before .before .args .a in
@@ -21,4 +13,6 @@ returns c =
     (decides-by (c .both .ensures) (decides-both (decides-number (x .start) (y .start)) (decides-number (x .end) (y .end))))
 
 pub same-window-spec : {M : Type 1} → statement M
-same-window-spec = tie.close (tie.spec both-requires returns)
+same-window-spec =
+    tie.close
+    (tie.spec (λ c κs. search needs) returns)

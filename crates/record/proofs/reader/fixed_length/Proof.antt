@@ -8,28 +8,22 @@ use Rattle.record.proofs.TicketRecords.{unknown}
 use borrow.Author.Needs.{needs}
 use Rattle.record.proofs.reader.fixed_length.Statement.{statement}
 use Rattle.record.proofs.reader.fixed_length.Tie as tie
-use Rattle.record.proofs.reader.fixed_length.Reads as reads
-use Rattle.record.proofs.reader.fixed_length.Lts as lts
 
--- src/reader.rt:52:1
 returns : tie.Need-returns
 unfolding offsetOf sizeAt presentIn knownMap
 returns c =
     (in-arm (λ m. (s : List ℕ) → 17 ≡ pick (knownMap m) (offsetOf ticketLayout s m 8) 0) (c .before .args .map) (0x0037 ∷ 0x0237 ∷ []) (c .match .keys1) ((λ s. refl), ((λ s. refl), tt)), search needs)
 
--- src/reader.rt:52:1
 returns-2 : tie.Need-returns-2
 unfolding offsetOf sizeAt presentIn knownMap
 returns-2 c =
     (in-arm (λ m. (s : List ℕ) → 20 ≡ pick (knownMap m) (offsetOf ticketLayout s m 8) 0) (c .before .args .map) (0x007F ∷ 0x027F ∷ 0x047F ∷ 0x067F ∷ []) (c .match .keys2) ((λ s. refl), ((λ s. refl), ((λ s. refl), ((λ s. refl), tt)))), search needs)
 
--- src/reader.rt:52:1
 returns-3 : tie.Need-returns-3
 unfolding offsetOf sizeAt presentIn knownMap
 returns-3 c =
     (in-arm (λ m. (s : List ℕ) → 22 ≡ pick (knownMap m) (offsetOf ticketLayout s m 8) 0) (c .before .args .map) (0x01FF ∷ 0x03FF ∷ []) (c .match .keys3) ((λ s. refl), ((λ s. refl), tt)), search needs)
 
--- src/reader.rt:52:1
 returns-4 : tie.Need-returns-4
 returns-4 c =
     let m = c .before .args .map in
@@ -40,4 +34,6 @@ returns-4 c =
     ((λ s. rw u), search needs)
 
 pub fixed-length-spec : {M : Type 1} → statement M
-fixed-length-spec = tie.close (tie.spec returns returns-2 returns-3 returns-4)
+fixed-length-spec =
+    tie.close
+    (tie.spec returns returns-2 returns-3 returns-4)

@@ -3,34 +3,16 @@ use Rattle.record.specs.TicketRecords.{originAs}
 use borrow.Author.Needs.{needs}
 use Rattle.record.proofs.reader.origin_as.Statement.{statement}
 use Rattle.record.proofs.reader.origin_as.Tie as tie
-use Rattle.record.proofs.reader.origin_as.Reads as reads
-use Rattle.record.proofs.reader.origin_as.Lts as lts
-use Rattle.record.proofs.present.Reads as present-reads
 
--- src/reader.rt:98:8
-present-requires : tie.Need-present-requires
-present-requires c κs = search needs
-
--- src/reader.rt:100:15
-present-requires-2 : tie.Need-present-requires-2
-present-requires-2 c κs = search needs
-
--- src/reader.rt:102:15
-present-requires-3 : tie.Need-present-requires-3
-present-requires-3 c κs = search needs
-
--- src/reader.rt:95:1
 returns : tie.Need-returns
 unfolding originAs
 returns c = simp (sym (c .before .present .ensures), c .if1 .taken)
 
--- src/reader.rt:95:1
 returns-2 : tie.Need-returns-2
 unfolding originAs
 returns-2 c =
     simp (sym (c .before .before .before .present .ensures), c .before .before .if1 .left, sym (c .before .present2 .ensures), c .if2 .taken)
 
--- src/reader.rt:95:1
 returns-3 : tie.Need-returns-3
 unfolding originAs
 returns-3 c =
@@ -43,7 +25,6 @@ returns-3 c =
       c .if3 .taken,
     )
 
--- src/reader.rt:95:1
 returns-4 : tie.Need-returns-4
 unfolding originAs
 returns-4 c =
@@ -59,11 +40,5 @@ returns-4 c =
 pub origin-as-spec : {M : Type 1} → statement M
 origin-as-spec =
     tie.close
-    (tie.spec
-    present-requires
-    present-requires-2
-    present-requires-3
-    returns
-    returns-2
-    returns-3
+    (tie.spec (λ c κs. search needs) (λ c κs. search needs) (λ c κs. search needs) returns returns-2 returns-3
     returns-4)

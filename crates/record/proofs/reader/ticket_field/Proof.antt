@@ -7,19 +7,7 @@ use Rattle.record.proofs.TicketRecords.{readable-fixed}
 use borrow.Author.Needs.{needs}
 use Rattle.record.proofs.reader.ticket_field.Statement.{statement}
 use Rattle.record.proofs.reader.ticket_field.Tie as tie
-use Rattle.record.proofs.reader.ticket_field.Reads as reads
-use Rattle.record.proofs.reader.ticket_field.Lts as lts
-use Rattle.record.proofs.take_field.Reads as take-field-reads
 
--- src/reader.rt:91:33
-mul-take-field : tie.Need-mul-take-field
-mul-take-field c = search needs
-
--- src/reader.rt:91:33
-array-read-take-field : tie.Need-array-read-take-field
-array-read-take-field c = search needs
-
--- src/reader.rt:91:5
 take-field-requires : tie.Need-take-field-requires
 take-field-requires c κs =
     let a = c .before .args in
@@ -29,7 +17,6 @@ take-field-requires c κs =
       field-within ticketLayout (now (a .bytes)) (a .map) (a .bit) 8 (a .at) (p .0) (p .0) (p .1) (readable-fixed (now (a .bytes)) (a .map) (p .2)),
     )
 
--- src/reader.rt:87:1
 returns : tie.Need-returns
 returns c =
     let a = c .before .before .args in
@@ -38,4 +25,5 @@ returns c =
 
 pub ticket-field-spec : {M : Type 1} → statement M
 ticket-field-spec =
-    tie.close (tie.spec mul-take-field array-read-take-field take-field-requires returns)
+    tie.close
+    (tie.spec (λ c. search needs) (λ c. search needs) take-field-requires returns)

@@ -6,19 +6,7 @@ use Rattle.record.proofs.Fields.{entry-most, field-within, taken}
 use borrow.Author.Needs.{needs}
 use Rattle.record.proofs.request.request_field.Statement.{statement}
 use Rattle.record.proofs.request.request_field.Tie as tie
-use Rattle.record.proofs.request.request_field.Reads as reads
-use Rattle.record.proofs.request.request_field.Lts as lts
-use Rattle.record.proofs.take_field.Reads as take-field-reads
 
--- src/request.rt:153:33
-mul-take-field : tie.Need-mul-take-field
-mul-take-field c = search needs
-
--- src/request.rt:153:33
-array-read-take-field : tie.Need-array-read-take-field
-array-read-take-field c = search needs
-
--- src/request.rt:153:5
 take-field-requires : tie.Need-take-field-requires
 take-field-requires c κs =
     let a = c .before .args in
@@ -28,7 +16,6 @@ take-field-requires c κs =
       field-within requestLayout (now (a .bytes)) (a .map) (a .bit) 4 (a .at) (p .0) (p .0) (p .1) (p .2),
     )
 
--- src/request.rt:149:1
 returns : tie.Need-returns
 returns c =
     let a = c .before .before .args in
@@ -37,4 +24,5 @@ returns c =
 
 pub request-field-spec : {M : Type 1} → statement M
 request-field-spec =
-    tie.close (tie.spec mul-take-field array-read-take-field take-field-requires returns)
+    tie.close
+    (tie.spec (λ c. search needs) (λ c. search needs) take-field-requires returns)

@@ -10,44 +10,19 @@ use Rattle.record.proofs.Requests.{span-within, whole-found, request-ye
 use borrow.Author.Needs.{needs}
 use Rattle.record.proofs.request.with_parts.Statement.{statement}
 use Rattle.record.proofs.request.with_parts.Tie as tie
-use Rattle.record.proofs.request.with_parts.Reads as reads
-use Rattle.record.proofs.request.with_parts.Lts as lts
-use Rattle.record.proofs.both.Reads as both-reads
-use Rattle.record.proofs.request.embedded.Reads as embedded-reads
-use Rattle.record.proofs.request.has_ticket.Reads as has-ticket-reads
-use Rattle.record.proofs.request.refused_request.Reads as refused-request-reads
 
--- src/request.rt:267:9
 embedded-requires : tie.Need-embedded-requires
 embedded-requires c κs =
     let a = c .before .before .before .args in
     let p = c .before .before .before .pre in
     (search needs, rw (p .1 .tgt) (span-within (now (a .bytes)) (a .map) 4 (omega arith) refl (omega arith) (omega (arith, p .1 .end, p .2))))
 
--- src/request.rt:268:9
 embedded-requires-2 : tie.Need-embedded-requires-2
 embedded-requires-2 c κs =
     let a = c .before .before .before .before .args in
     let p = c .before .before .before .before .pre in
     (search needs, rw (p .1 .evidence) (span-within (now (a .bytes)) (a .map) 5 (omega arith) refl (omega arith) (omega (arith, p .1 .end, p .2))))
 
--- src/request.rt:269:14
-has-ticket-requires : tie.Need-has-ticket-requires
-has-ticket-requires c κs = search needs
-
--- src/request.rt:269:31
-has-ticket-requires-2 : tie.Need-has-ticket-requires-2
-has-ticket-requires-2 c κs = search needs
-
--- src/request.rt:269:9
-both-requires : tie.Need-both-requires
-both-requires c κs = search needs
-
--- src/request.rt:270:9
-refused-request-requires : tie.Need-refused-request-requires
-refused-request-requires c κs = search needs
-
--- src/request.rt:270:9
 returns : tie.Need-returns
 unfolding embeddedOf
 returns c =
@@ -60,7 +35,6 @@ returns c =
     (sym (whole-found (now (a .bytes)) (a .map) (sym (p .2) ∙ p .1 .end))
     ∙ sym (simp (c .before .before .before .has-ticket2 .ensures, c .before .before .before .before .has-ticket .ensures, t, e) at (c .before .before .both .ensures)) ∙ not-true (c .before .before .both .result) (c .before .if1 .taken))
 
--- src/request.rt:261:1
 returns-2 : tie.Need-returns-2
 unfolding embeddedOf
 returns-2 c =
@@ -69,20 +43,13 @@ returns-2 c =
     let t = rw (p .1 .tgt) at (c .before .before .before .before .before .before .before .before .before .embedded .ensures) in
     let e = rw (p .1 .evidence) at (c .before .before .before .before .before .before .before .before .embedded2 .ensures) in
     let w =
-        sym (whole-found (now (a .bytes)) (a .map) (sym (p .2) ∙ p .1 .end))
-        ∙ sym (simp (c .before .before .before .before .before .before .has-ticket2 .ensures, c .before .before .before .before .before .before .before .has-ticket .ensures, t, e) at (c .before .before .before .before .before .both .ensures)) ∙ not-false (c .before .before .before .before .before .both .result) (c .before .before .before .before .if1 .left)
+    sym (whole-found (now (a .bytes)) (a .map) (sym (p .2) ∙ p .1 .end))
+    ∙ sym (simp (c .before .before .before .before .before .before .has-ticket2 .ensures, c .before .before .before .before .before .before .before .has-ticket .ensures, t, e) at (c .before .before .before .before .before .both .ensures)) ∙ not-false (c .before .before .before .before .before .both .result) (c .before .before .before .before .if1 .left)
     in
     simp (t, e, p .0 .options, p .0 .pac, p .0 .till, p .1 .user, p .1 .service) (request-yes (now (a .bytes)) (a .map) (a .kind) w)
 
 pub with-parts-spec : {M : Type 1} → statement M
 with-parts-spec =
     tie.close
-    (tie.spec
-    embedded-requires
-    embedded-requires-2
-    has-ticket-requires
-    has-ticket-requires-2
-    both-requires
-    refused-request-requires
-    returns
-    returns-2)
+    (tie.spec embedded-requires embedded-requires-2 (λ c κs. search needs) (λ c κs. search needs)
+    (λ c κs. search needs) (λ c κs. search needs) returns returns-2)

@@ -9,8 +9,6 @@ use Rattle.record.proofs.Output.{copy-step}
 use borrow.Author.Needs.{needs}
 use Rattle.record.proofs.writer.copy.Statement.{statement}
 use Rattle.record.proofs.writer.copy.Tie as tie
-use Rattle.record.proofs.writer.copy.Reads as reads
-use Rattle.record.proofs.writer.copy.Lts as lts
 
 abbrev Inv-loop : tie.InvT-loop
 Inv-loop out₀ at src n i₀ out i = (i ≤ n) × (length out ≡ length out₀) × (out ≡ sets out₀ at (take i src))
@@ -18,31 +16,9 @@ Inv-loop out₀ at src n i₀ out i = (i ≤ n) × (length out ≡ length out₀
 abbrev μ-loop : tie.MeasureT-loop
 μ-loop out₀ at src n i₀ out i = n - i
 
--- src/writer.rt:89:5
 loop-holds : tie.Need-loop-holds Inv-loop μ-loop
 loop-holds c = (search needs, refl, refl)
 
--- src/writer.rt:90:23
-shared-slice-read-out : tie.Need-shared-slice-read-out Inv-loop μ-loop
-shared-slice-read-out c = search needs
-
--- src/writer.rt:90:13
-add-out : tie.Need-add-out Inv-loop μ-loop
-add-out c = search needs
-
--- src/writer.rt:90:9
-slice-write-out : tie.Need-slice-write-out Inv-loop μ-loop
-slice-write-out c = search needs
-
--- src/writer.rt:89:9
-add-i : tie.Need-add-i Inv-loop μ-loop
-add-i c = search needs
-
--- src/writer.rt:89:5
-loop-less : tie.Need-loop-less Inv-loop μ-loop
-loop-less c = search needs
-
--- src/writer.rt:89:5
 loop-again : tie.Need-loop-again Inv-loop μ-loop
 loop-again c =
     let l = c .before .before .loop in
@@ -53,15 +29,6 @@ loop-again c =
       rw (l .inv .2) (copy-step (now (a .out)) (now (a .src)) (a .at) (l .i) (search needs)),
     )
 
--- src/writer.rt:92:5
-add-result : tie.Need-add-result Inv-loop μ-loop
-add-result c = search needs
-
--- src/writer.rt:84:1
-same-length : tie.Need-same-length Inv-loop μ-loop
-same-length c = search needs
-
--- src/writer.rt:84:1
 returns : tie.Need-returns Inv-loop μ-loop
 returns c =
     let e : c .before .loop .i ≡ c .before .before .args .n = omega arith in
@@ -71,16 +38,5 @@ returns c =
 pub copy-spec : {M : Type 1} → statement M
 copy-spec =
     tie.close
-    (tie.spec
-    Inv-loop
-    μ-loop
-    loop-holds
-    shared-slice-read-out
-    add-out
-    slice-write-out
-    add-i
-    loop-less
-    loop-again
-    add-result
-    same-length
-    returns)
+    (tie.spec Inv-loop μ-loop loop-holds (λ c. search needs) (λ c. search needs) (λ c. search needs)
+    (λ c. search needs) (λ c. search needs) loop-again (λ c. search needs) (λ c. search needs) returns)

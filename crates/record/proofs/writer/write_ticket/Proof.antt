@@ -7,22 +7,7 @@ use Rattle.record.proofs.Output.{unwritable, short, written, well-hops,
 use borrow.Author.Needs.{needs}
 use Rattle.record.proofs.writer.write_ticket.Statement.{statement}
 use Rattle.record.proofs.writer.write_ticket.Tie as tie
-use Rattle.record.proofs.writer.write_ticket.Reads as reads
-use Rattle.record.proofs.writer.write_ticket.Lts as lts
-use Rattle.record.proofs.writer.map_for.Reads as map-for-reads
-use Rattle.record.proofs.writer.put_head.Reads as put-head-reads
-use Rattle.record.proofs.writer.put_tail.Reads as put-tail-reads
-use Rattle.record.proofs.writer.well_formed.Reads as well-formed-reads
 
--- src/writer.rt:169:9
-map-for-requires : tie.Need-map-for-requires
-map-for-requires c κs = search needs
-
--- src/writer.rt:170:9
-well-formed-requires : tie.Need-well-formed-requires
-well-formed-requires c κs = search needs
-
--- src/writer.rt:171:9
 returns : tie.Need-returns
 returns c =
     let a = c .before .before .before .before .args in
@@ -30,7 +15,6 @@ returns c =
     unwritable (a .t) (now (a .out)) (m .result) (m .ensures)
     (sym (c .before .well-formed .ensures) ∙ not-true (c .before .well-formed .result) (c .if1 .taken))
 
--- src/writer.rt:174:9
 returns-2 : tie.Need-returns-2
 returns-2 c =
     let a = c .before .before .before .before .before .args in
@@ -38,11 +22,6 @@ returns-2 c =
     let w = c .before .before .well-formed in
     short (a .t) (now (a .out)) (m .result) (m .ensures) (sym (w .ensures) ∙ not-false (w .result) (c .before .if1 .left)) (c .if2 .taken)
 
--- src/writer.rt:176:9
-put-head-requires : tie.Need-put-head-requires
-put-head-requires c κs = search needs
-
--- src/writer.rt:177:9
 put-tail-requires : tie.Need-put-tail-requires
 put-tail-requires c κs =
     let m = c .before .before .before .before .before .before .before .before .map-for in
@@ -52,11 +31,6 @@ put-tail-requires c κs =
       well-hops (c .before .before .before .before .before .before .before .before .before .before .args .t) (m .result) (sym (w .ensures) ∙ not-false (w .result) (c .before .before .before .before .before .before .if1 .left)),
     )
 
--- src/writer.rt:164:1
-same-length : tie.Need-same-length
-same-length c = search needs
-
--- src/writer.rt:164:1
 returns-3 : tie.Need-returns-3
 unfolding recordAs
 returns-3 c =
@@ -71,12 +45,5 @@ returns-3 c =
 pub write-ticket-spec : {M : Type 1} → statement M
 write-ticket-spec =
     tie.close
-    (tie.spec
-    map-for-requires
-    well-formed-requires
-    returns
-    returns-2
-    put-head-requires
-    put-tail-requires
-    same-length
-    returns-3)
+    (tie.spec (λ c κs. search needs) (λ c κs. search needs) returns returns-2 (λ c κs. search needs) put-tail-requires
+    (λ c. search needs) returns-3)
