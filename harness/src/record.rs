@@ -287,3 +287,40 @@ pub fn read_request(request: &[u8]) -> Result<Request<'_>, Error> {
     unread.finish()?;
     Ok(Request { kind, options, pac_options, till })
 }
+
+#[cfg(test)]
+mod tests {
+    use super::*;
+
+    /// The records of the morning.
+    const RECORDS: [&[u8]; 3] = [
+        b"\x00\x37\x00\x00\x00\x40\x00\x00\x01\x00\x00\x03\xe8\x00\x00\x90\x88",
+        b"\x04\x7f\x00\x01\x40\x00\x00\x00\x00\x01\x00\x00\x03\xf2\x00\x00\x90\x88\x00\x00",
+        b"\x01\xff\x00\x02\x40\x00\x00\x00\x00\x02\x00\x00\x03\xfc\x00\x00\x90\x88\x00\x00\x00\x01\x01\x01",
+    ];
+
+    #[test]
+    fn a_record_that_reads_is_written_again() {
+        for record in RECORDS {
+            let ticket = read_ticket(record).unwrap();
+            let mut output = [0; LONGEST_RECORD];
+            let length = write_ticket(&ticket, &mut output).unwrap();
+            assert_eq!(&output[..length], record);
+        }
+    }
+
+    #[test]
+    fn a_short_output_is_refused_and_left_as_it_was() {
+        let ticket = read_ticket(RECORDS[0]).unwrap();
+        let mut output = [0xEE; LONGEST_RECORD - 1];
+        assert_eq!(write_ticket(&ticket, &mut output), Err(Error::ResponseTooBig));
+        assert_eq!(output, [0xEE; LONGEST_RECORD - 1]);
+    }
+
+    #[test]
+    fn the_first_request_of_the_morning_reads() {
+        let kind = Kind::Initial { user: b"web" };
+        let request = Request { kind, options: 0, pac_options: 0, till: 0 };
+        assert_eq!(read_request(b"\x00\x41\x01\x03web"), Ok(request));
+    }
+}
