@@ -1,8 +1,9 @@
-# run: builds the program and starts it. test: all that must hold, ending in `rt ci`. bench: times the compiled library (docs/PERFORMANCE.md).
+# run: builds the program and starts it. test: all that must hold, ending in `rt ci`. library: proves and builds target/staticlib/libtickets.a.
+# bench: times the compiled library (docs/PERFORMANCE.md).
 CARGO = cargo --quiet
 HARNESS = --offline --release --manifest-path harness/Cargo.toml
 PROGRAM = record_vectors
-.PHONY: run test bench
+.PHONY: run test bench library
 
 run:
 	@mkdir -p target
@@ -13,4 +14,13 @@ test:
 	rt fmt --check
 	$(CARGO) test $(HARNESS)
 	$(CARGO) run $(HARNESS) --bin record_vectors | cmp - crates/record_vectors/stdout
+	@$(MAKE) --no-print-directory library
+	$(CARGO) test $(HARNESS) --features library --test library
 	rt ci
+
+library:
+	@mkdir -p target
+	@rt staticlib tickets >target/library.log 2>&1 || { cat target/library.log; exit 1; }
+
+bench: library
+	@$(CARGO) run $(HARNESS) --features library --bin bench

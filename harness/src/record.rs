@@ -293,13 +293,9 @@ pub fn read_request(request: &[u8]) -> Result<Request<'_>, Error> {
 #[cfg(test)]
 mod tests {
     use super::*;
+    use crate::samples::{w1, TICKET_0, TICKET_1, TICKET_2};
 
-    /// The records of the morning.
-    const RECORDS: [&[u8]; 3] = [
-        b"\x00\x37\x00\x00\x00\x40\x00\x00\x01\x00\x00\x03\xe8\x00\x00\x90\x88",
-        b"\x04\x7f\x00\x01\x40\x00\x00\x00\x00\x01\x00\x00\x03\xf2\x00\x00\x90\x88\x00\x00",
-        b"\x01\xff\x00\x02\x40\x00\x00\x00\x00\x02\x00\x00\x03\xfc\x00\x00\x90\x88\x00\x00\x00\x01\x01\x01",
-    ];
+    const RECORDS: [&[u8]; 3] = [TICKET_0, TICKET_1, TICKET_2];
 
     #[test]
     fn a_record_that_reads_is_written_again() {
@@ -323,6 +319,6 @@ mod tests {
     fn the_first_request_of_the_morning_reads() {
         let kind = Kind::Initial { user: b"web" };
         let request = Request { kind, options: 0, pac_options: 0, till: 0 };
-        assert_eq!(read_request(b"\x00\x41\x01\x03web"), Ok(request));
+        assert_eq!(read_request(&w1()), Ok(request));
     }
 }

@@ -5,6 +5,7 @@ use harness::record::{
     read_request, read_ticket, write_ticket, Error, Kind, Origin, Request, Ticket, Trail,
     LONGEST_RECORD,
 };
+use harness::samples::{counted, w1, w3_with, TICKET_0, TICKET_1, TICKET_2};
 use std::fmt;
 use std::io::{self, BufWriter, Write};
 use std::iter;
@@ -14,13 +15,6 @@ const TICKET_MAPS: [u16; 8] = [0x0037, 0x0237, 0x007F, 0x027F, 0x047F, 0x067F, 0
 
 /// The bytes of the ticket fields 0 to 7, by map bit.
 const TICKET_WIDTHS: [usize; 8] = [2, 4, 1, 1, 4, 4, 2, 2];
-
-/// The records of the morning.
-const TICKET_0: &[u8] = b"\x00\x37\x00\x00\x00\x40\x00\x00\x01\x00\x00\x03\xe8\x00\x00\x90\x88";
-const TICKET_1: &[u8] =
-    b"\x04\x7f\x00\x01\x40\x00\x00\x00\x00\x01\x00\x00\x03\xf2\x00\x00\x90\x88\x00\x00";
-const TICKET_2: &[u8] =
-    b"\x01\xff\x00\x02\x40\x00\x00\x00\x00\x02\x00\x00\x03\xfc\x00\x00\x90\x88\x00\x00\x00\x01\x01\x01";
 
 /// Records that are odd and readable: start after end; number 65535; all flags; back numbers above
 /// the ticket's own.
@@ -361,25 +355,9 @@ fn print_origin_equality(out: &mut impl Write) -> io::Result<()> {
     Ok(())
 }
 
-/// A field with its length byte first.
-fn counted(bytes: &[u8]) -> Vec<u8> {
-    [&[bytes.len() as u8], bytes].concat()
-}
-
-/// W1: kind 1, `web`.
-fn w1() -> Vec<u8> {
-    [&b"\x00\x41\x01"[..], &counted(b"web")].concat()
-}
-
 /// W2: kind 3 for `tech`, with this TGT field.
 fn w2_with(tgt: &[u8]) -> Vec<u8> {
     [b"\x00\x51\x03", tgt, &counted(b"tech")].concat()
-}
-
-/// W3: kind 4 to `store`, with ticket 0 and this evidence field, and CNAME-IN-ADDL-TKT.
-fn w3_with(evidence: &[u8]) -> Vec<u8> {
-    let head = b"\x00\xb3\x04\x00\x02\x00\x00";
-    [head, &counted(TICKET_0)[..], evidence, &counted(b"store")].concat()
 }
 
 fn print_request(out: &mut impl Write, bytes: &[u8]) -> io::Result<()> {

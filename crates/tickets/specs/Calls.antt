@@ -1,0 +1,67 @@
+-- What the exported functions answer, in numbers. Document 01, "Ticket records", "Requests" and "Error numbers".
+-- Assumes nothing.
+use Prim.Native.Nat.{ℕ}
+use mathlib.Core.List.{List, [], _∷_}
+use Rattle.record.specs.Errors.{numberOf}
+use Rattle.record.specs.TicketRecords.{writtenOf, outputOf}
+use Rattle.record.specs.declared.errors.Error.{Error}
+use Rattle.record.specs.declared.errors.Answer.{Answer}
+use Rattle.record.specs.declared.errors.Answer.the-variants.{Accepted, Refused}
+use Rattle.record.specs.declared.ticket.Ticket.{Ticket}
+use Rattle.record.specs.declared.reader.Reading.{Reading}
+use Rattle.record.specs.declared.writer.Written.{Written}
+use Rattle.record.specs.declared.writer.Written.the-variants.{Length, Refused as Unwritten}
+use Rattle.record.specs.declared.request.Kind.{Kind}
+use Rattle.record.specs.declared.request.Kind.the-variants.{Initial, Direct, S4U2self, S4U2proxy}
+use Rattle.record.specs.declared.request.Request.{Request}
+use Rattle.record.specs.declared.request.RequestReading.{RequestReading}
+use Rattle.tickets.specs.declared.TicketsAnswer.{TicketsAnswer}
+
+-- a refusal's number, with no value
+abbrev pub refusal : Error → TicketsAnswer
+refusal e = record { error = numberOf e; value = 0 }
+
+-- the writer's answer: no error and the record's length, or a refusal
+abbrev pub writtenAnswer : Written → TicketsAnswer
+writtenAnswer (Length n) = record { error = 0; value = n }
+writtenAnswer (Unwritten e) = refusal e
+
+-- a ticket that was read is written to an output of n bytes; a refusal of the reader stays one
+abbrev pub writeRead : Answer → Ticket → ℕ → TicketsAnswer
+writeRead Accepted t n = writtenAnswer (writtenOf t n)
+writeRead (Refused e) t n = refusal e
+
+-- the answer to a record that is to be written again to an output of n bytes
+abbrev pub rewriteAnswer : Reading → ℕ → TicketsAnswer
+rewriteAnswer r n = writeRead (r .answer) (r .ticket) n
+
+-- the output after the writer, or as it was
+abbrev pub outputRead : Answer → Ticket → List ℕ → List ℕ
+outputRead Accepted t out = outputOf t out
+outputRead (Refused e) t out = out
+
+-- the output after that call
+abbrev pub rewriteOutput : Reading → List ℕ → List ℕ
+rewriteOutput r out = outputRead (r .answer) (r .ticket) out
+
+-- "1 initial, 2 direct, 3 S4U2self, 4 S4U2proxy"
+abbrev pub kindNumber : Kind → ℕ
+kindNumber Initial = 1
+kindNumber Direct = 2
+kindNumber S4U2self = 3
+kindNumber S4U2proxy = 4
+
+-- kind, options, PAC options, till, the numbers of the TGT and of the evidence, and where the user's and the service's name lie
+abbrev pub requestFields : Request → List ℕ
+requestFields q =
+    kindNumber (q .kind) ∷ q .options ∷ q .pac ∷ q .till ∷ q .tgt .number ∷ q .evidence .number ∷ q .user .at ∷ q .user .len
+    ∷ q .service .at ∷ q .service .len ∷ []
+
+-- the numbers of a request that was read, or what stood there
+abbrev pub fieldsRead : Answer → Request → List ℕ → List ℕ
+fieldsRead Accepted q old = requestFields q
+fieldsRead (Refused e) q old = old
+
+-- the ten fields after a request was read
+abbrev pub fieldsAfter : RequestReading → List ℕ → List ℕ
+fieldsAfter r old = fieldsRead (r .answer) (r .request) old
