@@ -1,0 +1,6 @@
+pub mod Accounts
+pub mod Names
+pub mod Checks
+pub mod Edits
+pub mod Decisions
+pub mod Cases
