@@ -4,8 +4,10 @@
 /// The fewest bytes that the writer takes as output: those of the longest issued record.
 pub const LONGEST_RECORD: usize = 31;
 
-/// The most account numbers that a trail holds.
-pub const LONGEST_TRAIL: usize = 8;
+/// The account numbers of a trail, and zeros after them.
+pub type Trail = [u8; 8];
+
+const NO_TRAIL: Trail = [0; 8];
 
 /// The ticket maps of the four origins; `BARRED` may be added to each.
 const INITIAL: u16 = 0x0037;
@@ -14,7 +16,7 @@ const SELF: u16 = 0x047F;
 const DELEGATED: u16 = 0x01FF;
 const BARRED: u16 = 0x0200;
 
-/// The request map bits of the fields that no kind needs in every case.
+/// The request map bits of the fields that some request may lack.
 const OPTIONS: u16 = 1 << 1;
 const PAC_OPTIONS: u16 = 1 << 2;
 const TILL: u16 = 1 << 3;
@@ -54,7 +56,7 @@ pub struct Ticket {
     pub start: u32,
     pub end: u32,
     pub origin: Origin,
-    pub trail: [u8; LONGEST_TRAIL],
+    pub trail: Trail,
     pub hops: u8,
     pub barred: bool,
 }
@@ -79,7 +81,7 @@ impl Ticket {
     /// one has a trail, of 1 to 8 accounts, and the places after the trail are 0.
     fn has_record(&self) -> bool {
         let hops_allowed = match self.origin {
-            Origin::Delegated { .. } => 1..=LONGEST_TRAIL,
+            Origin::Delegated { .. } => 1..=self.trail.len(),
             _ => 0..=0,
         };
         let hops = usize::from(self.hops);
@@ -149,9 +151,9 @@ impl<'a> Unread<'a> {
     }
 
     /// The trail and its length, 1 to 8.
-    fn trail(&mut self) -> Result<([u8; LONGEST_TRAIL], u8), Error> {
+    fn trail(&mut self) -> Result<(Trail, u8), Error> {
         let accounts = self.counted()?;
-        let mut trail = [0; LONGEST_TRAIL];
+        let mut trail = NO_TRAIL;
         if accounts.is_empty() || accounts.len() > trail.len() {
             return Err(Error::Generic);
         }
@@ -180,7 +182,7 @@ pub fn read_ticket(record: &[u8]) -> Result<Ticket, Error> {
     let start = unread.u32()?;
     let end = unread.u32()?;
     let origin = unread.origin(kind)?;
-    let (trail, hops) = if kind == DELEGATED { unread.trail()? } else { ([0; LONGEST_TRAIL], 0) };
+    let (trail, hops) = if kind == DELEGATED { unread.trail()? } else { (NO_TRAIL, 0) };
     unread.finish()?;
     let barred = map & BARRED != 0;
     Ok(Ticket { number, flags, client, service, start, end, origin, trail, hops, barred })

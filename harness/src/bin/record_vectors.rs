@@ -2,7 +2,8 @@
 //! "Requests", and the records of "Hops and a morning". One line for each vector.
 
 use harness::record::{
-    read_request, read_ticket, write_ticket, Error, Kind, Origin, Request, Ticket, LONGEST_RECORD,
+    read_request, read_ticket, write_ticket, Error, Kind, Origin, Request, Ticket, Trail,
+    LONGEST_RECORD,
 };
 use std::fmt;
 use std::io::{self, BufWriter, Write};
@@ -203,7 +204,7 @@ fn print_ticket_maps(out: &mut impl Write) -> io::Result<()> {
 }
 
 /// A ticket made by hand that has a record, of this origin and trail.
-fn made_ticket(origin: Origin, hops: u8, trail: [u8; 8]) -> Ticket {
+fn made_ticket(origin: Origin, hops: u8, trail: Trail) -> Ticket {
     Ticket {
         number: 0x0102,
         flags: 0x4040_0000,
@@ -218,10 +219,10 @@ fn made_ticket(origin: Origin, hops: u8, trail: [u8; 8]) -> Ticket {
     }
 }
 
-const NO_TRAIL: [u8; 8] = [0; 8];
-const FULL_TRAIL: [u8; 8] = [1, 2, 3, 4, 5, 6, 7, 8];
+const NO_TRAIL: Trail = [0; 8];
+const FULL_TRAIL: Trail = [1, 2, 3, 4, 5, 6, 7, 8];
 /// A trail of two accounts with a stale byte after them.
-const STALE_TRAIL: [u8; 8] = [1, 2, 3, 0, 0, 0, 0, 0];
+const STALE_TRAIL: Trail = [1, 2, 3, 0, 0, 0, 0, 0];
 const DIRECT: Origin = Origin::Direct { tgt: 0x0506 };
 const SELF: Origin = Origin::SelfIssued { tgt: 0x0506 };
 const DELEGATED: Origin = Origin::Delegated { tgt: 0x0506, evidence: 0x0708 };
