@@ -2,12 +2,12 @@
 -- Assumes nothing.
 use mathlib.Core.Path.{_≡_, refl, sym, ap, ap₂, _∙_}
 use mathlib.Core.Bool.{Bool, true, false, _&&_, Bool·beq, false≢true}
-use mathlib.Core.List.{List}
+use mathlib.Core.List.{List, [], _∷_}
 use Prim.Native.Nat.{ℕ}
 use native.Mathlib.Omega.{arith}
 use lib.Dec.{eqb}
 use borrow.Author.Tests.{eqb-true, eq-eqb}
-use Rattle.record.specs.Equality.{Decides, SameHead}
+use Rattle.record.specs.Equality.{Decides, SameHead, sameList, sameOrigin, sameTicket}
 use Rattle.record.specs.TicketRecords.{originMap, tgtOf, evidenceOf}
 use Rattle.record.specs.declared.window.Window.{Window}
 use Rattle.record.specs.declared.ticket.Origin.{Origin}
@@ -82,3 +82,75 @@ same-tickets a b h w o t i =
 
 pub same-windows : (a b : Window) → a .start ≡ b .start → a .end ≡ b .end → a ≡ b
 same-windows a b s e i = record { start = s i; end = e i }
+
+-- two answers that decide the same are equal
+pub decides-once : (r t : Bool) {P : Type 0} → Decides r P → Decides t P → r ≡ t
+decides-once true true d e = refl
+decides-once true false d e = sym (e .complete (d .sound refl))
+decides-once false true d e = d .complete (e .sound refl)
+decides-once false false d e = refl
+
+decides-list : (xs ys : List ℕ) → Decides (sameList xs ys) (xs ≡ ys)
+decides-list [] [] = decides-yes refl
+decides-list [] (y ∷ ys) = decides-no (λ e. let z : _≡_ {A = ℕ} 0 1 = cc in omega arith)
+decides-list (x ∷ xs) [] = decides-no (λ e. let z : _≡_ {A = ℕ} 0 1 = cc in omega arith)
+decides-list (x ∷ xs) (y ∷ ys) =
+    decides-as (λ h. ap₂ (λ (a : ℕ) (l : List ℕ). a ∷ l) (h .0) (h .1)) (λ e. (cc, cc)) (decides-both (decides-number x y) (decides-list xs ys))
+
+pub decides-origin : (a b : Origin) → Decides (sameOrigin a b) (a ≡ b)
+decides-origin a b =
+    decides-as (λ h. same-origins a b (h .0) (h .1 .0) (h .1 .1)) (λ e. (ap originMap e, (ap tgtOf e, ap evidenceOf e)))
+    (decides-both (decides-number (originMap a) (originMap b))
+    (decides-both (decides-number (tgtOf a) (tgtOf b)) (decides-number (evidenceOf a) (evidenceOf b))))
+
+-- the test of every field is true exactly when the tickets are equal
+pub decides-ticket : (a b : Ticket) → Decides (sameTicket a b) (a ≡ b)
+unfolding sameTicket
+decides-ticket a b =
+    decides-as
+    (λ h.
+    same-tickets a b
+    (record {
+      number = h .0;
+      flags = h .1 .0;
+      client = h .1 .1 .0;
+      service = h .1 .1 .1 .0;
+      barred = h .1 .1 .1 .1 .1 .1 .1 .1 .1;
+    })
+    (same-windows (a .window) (b .window) (h .1 .1 .1 .1 .0) (h .1 .1 .1 .1 .1 .0))
+    (h .1 .1 .1 .1 .1 .1 .0)
+    (h .1 .1 .1 .1 .1 .1 .1 .0, h .1 .1 .1 .1 .1 .1 .1 .1 .0))
+    (λ e. (
+      ap (λ (t : Ticket). t .number) e,
+      (
+        ap (λ (t : Ticket). t .flags) e,
+        (
+          ap (λ (t : Ticket). t .client) e,
+          (
+            ap (λ (t : Ticket). t .service) e,
+            (
+              ap (λ (t : Ticket). t .window .start) e,
+              (
+                ap (λ (t : Ticket). t .window .end) e,
+                (
+                  ap (λ (t : Ticket). t .origin) e,
+                  (
+                    ap (λ (t : Ticket). t .trail) e,
+                    (ap (λ (t : Ticket). t .hops) e, ap (λ (t : Ticket). t .barred) e),
+                  ),
+                ),
+              ),
+            ),
+          ),
+        ),
+      ),
+    ))
+    (decides-both (decides-number (a .number) (b .number))
+    (decides-both (decides-number (a .flags) (b .flags))
+    (decides-both (decides-number (a .client) (b .client))
+    (decides-both (decides-number (a .service) (b .service))
+    (decides-both (decides-number (a .window .start) (b .window .start))
+    (decides-both (decides-number (a .window .end) (b .window .end))
+    (decides-both (decides-origin (a .origin) (b .origin))
+    (decides-both (decides-list (a .trail) (b .trail))
+    (decides-both (decides-number (a .hops) (b .hops)) (decides-bool (a .barred) (b .barred)))))))))))

@@ -22,6 +22,7 @@ pub use request::Span;
 pub use request::read_request;
 pub use ticket::Origin;
 pub use ticket::Ticket;
+pub use ticket::blank_ticket;
 pub use window::Window;
 pub use writer::Written;
 pub use writer::write_ticket;

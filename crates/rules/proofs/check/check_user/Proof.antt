@@ -1,0 +1,14 @@
+use Rattle.rules.specs.Decisions.{userChecks}
+use Rattle.rules.proofs.Checks.{user-then}
+use borrow.Author.Needs.{needs}
+use Rattle.rules.proofs.check.check_user.Statement.{statement}
+use Rattle.rules.proofs.check.check_user.Tie as tie
+
+returns : tie.Need-returns
+returns c =
+    simp (c .unless2 .ensures, c .before .unless .ensures, c .before .before .is-enabled .ensures) (user-then (c .before .before .before .args .user) (c .before .before .before .args .rest))
+
+pub check-user-spec : {M : Type 1} → statement M
+check-user-spec =
+    tie.close
+    (tie.spec (λ c κs. search needs) (λ c κs. search needs) (λ c κs. search needs) returns)

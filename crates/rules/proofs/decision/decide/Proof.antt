@@ -1,0 +1,35 @@
+use denote.Ref.{now}
+use Rattle.record.specs.declared.request.Kind.the-variants as kind
+use Rattle.rules.specs.Accounts.{tableOf}
+use Rattle.rules.proofs.Decisions.{decide-as}
+use mathlib.Core.Path.{_≡_, refl, sym, ap, _∙_}
+use borrow.Author.Needs.{needs}
+use Rattle.rules.proofs.decision.decide.Statement.{statement}
+use Rattle.rules.proofs.decision.decide.Tie as tie
+
+returns : tie.Need-returns
+returns c =
+    let a = c .before .before .before .before .args in
+    decide-as (a .q .kind) kind.Initial (tableOf (now (a .words))) (now (a .bytes)) (a .q) (a .tgt) (a .evidence) (a .m) (c .initial .result) (c .before .enum-told .given .1) (c .initial .ensures)
+
+returns-2 : tie.Need-returns-2
+returns-2 c =
+    let a = c .before .before .before .before .args in
+    decide-as (a .q .kind) kind.Direct (tableOf (now (a .words))) (now (a .bytes)) (a .q) (a .tgt) (a .evidence) (a .m) (c .direct .result) (c .before .enum-told2 .given .1) (c .direct .ensures)
+
+returns-3 : tie.Need-returns-3
+returns-3 c =
+    let a = c .before .before .before .before .args in
+    decide-as (a .q .kind) kind.S4U2self (tableOf (now (a .words))) (now (a .bytes)) (a .q) (a .tgt) (a .evidence) (a .m) (c .self-issued .result) (c .before .enum-told3 .given .1) (c .self-issued .ensures)
+
+returns-4 : tie.Need-returns-4
+returns-4 c =
+    let a = c .before .before .before .before .args in
+    decide-as (a .q .kind) kind.S4U2proxy (tableOf (now (a .words))) (now (a .bytes)) (a .q) (a .tgt) (a .evidence) (a .m) (c .proxy .result) (c .before .enum-told4 .given .1) (c .proxy .ensures)
+
+pub decide-spec : {M : Type 1} → statement M
+decide-spec =
+    tie.close
+    (tie.spec (λ c. search needs) (λ c κs. search needs) (λ c. search needs) (λ c κs. search needs)
+    (λ c. search needs) (λ c κs. search needs) (λ c. search needs) (λ c κs. search needs) returns returns-2 returns-3
+    returns-4)

@@ -1,0 +1,48 @@
+use mathlib.Core.Path.{_≡_, refl, sym, ap, _∙_}
+use denote.Ref.{now}
+use native.Mathlib.Omega.{arith}
+use Rattle.rules.specs.Accounts.{tableOf}
+use lib.Dec.{ltb}
+use borrow.Author.Tests.{ltb-true}
+use Rattle.rules.proofs.Checks.{is-accepted}
+use Rattle.rules.proofs.Decisions.{hop-count, hop-few, proxy-refused, proxy-granted}
+use borrow.Author.Needs.{needs}
+use Rattle.rules.proofs.decision.decide_proxy.Statement.{statement}
+use Rattle.rules.proofs.decision.decide_proxy.Tie as tie
+
+proxy-ticket-requires : tie.Need-proxy-ticket-requires
+proxy-ticket-requires c κs =
+    let a = c .before .before .before .before .before .before .before .before .before .before .args in
+    let r = c .before .before .check-service in
+    let x = c .before .before .before .before .before .before .account-at .result in
+    let y = c .before .before .before .before .before .account-at2 .result in
+    let w = c .before .before .before .before .hop-window .result in
+    let k = sym (rw (c .before .before .before .check-hop .ensures) at (r .ensures)) ∙ is-accepted (r .result) (sym (c .before .is-accepted .ensures) ∙ c .if1 .taken) in
+    (hop-count (a .q) (a .m) (a .s) x y w k, search needs, hop-few (a .q) (a .m) (a .s) x y w k)
+
+returns : tie.Need-returns
+returns c =
+    let a = c .before .before .before .before .before .before .before .before .before .before .before .before .args in
+    let r = c .before .before .before .before .check-service in
+    λ h g k.
+    c .grant .ensures
+    ∙ proxy-granted (tableOf (now (a .words))) (a .q) h (a .m) (a .s) g k (c .before .before .before .before .before .before .before .before .account-at .result) (c .before .before .before .before .before .before .before .account-at2 .result) (c .before .before .before .before .before .before .hop-window .result) (r .result)
+    (c .before .before .before .before .before .before .before .before .account-at .ensures) (c .before .before .before .before .before .before .before .account-at2 .ensures) (c .before .before .before .before .before .before .hop-window .ensures) (rw (c .before .before .before .before .before .check-hop .ensures) at (r .ensures)) (c .before .proxy-ticket .result)
+    (sym (c .before .before .before .is-accepted .ensures) ∙ c .before .before .if1 .taken) (c .before .proxy-ticket .ensures)
+
+returns-2 : tie.Need-returns-2
+returns-2 c =
+    let a = c .before .before .before .before .before .before .before .before .before .before .before .args in
+    let r = c .before .before .before .check-service in
+    λ h g k.
+    c .refuse .ensures
+    ∙ proxy-refused (tableOf (now (a .words))) (a .q) h (a .m) (a .s) g k (c .before .before .before .before .before .before .before .account-at .result) (c .before .before .before .before .before .before .account-at2 .result) (c .before .before .before .before .before .hop-window .result) (r .result)
+    (c .before .before .before .before .before .before .before .account-at .ensures) (c .before .before .before .before .before .before .account-at2 .ensures) (c .before .before .before .before .before .hop-window .ensures) (rw (c .before .before .before .before .check-hop .ensures) at (r .ensures))
+    (sym (c .before .before .is-accepted .ensures) ∙ c .before .if1 .left)
+
+pub decide-proxy-spec : {M : Type 1} → statement M
+decide-proxy-spec =
+    tie.close
+    (tie.spec (λ c. search needs) (λ c κs. search needs) (λ c κs. search needs) (λ c κs. search needs)
+    (λ c κs. search needs) (λ c κs. search needs) (λ c κs. search needs) proxy-ticket-requires (λ c κs. search needs)
+    (λ c κs. search needs) returns returns-2)

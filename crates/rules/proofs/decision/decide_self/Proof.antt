@@ -1,0 +1,49 @@
+use mathlib.Core.Path.{_≡_, refl, sym, ap, _∙_}
+use denote.Ref.{now}
+use native.Mathlib.Omega.{arith}
+use Rattle.rules.specs.Accounts.{tableOf}
+use Rattle.rules.proofs.Checks.{is-accepted, rest-held, right-held}
+use Rattle.rules.specs.Decisions.{selfCheck, userChecks, lastChecks}
+use Rattle.rules.proofs.Decisions.{last-count, self-answer, self-refused, self-granted}
+use mathlib.Core.List.{_++_}
+use borrow.Author.Needs.{needs}
+use Rattle.rules.proofs.decision.decide_self.Statement.{statement}
+use Rattle.rules.proofs.decision.decide_self.Tie as tie
+
+self-ticket-requires : tie.Need-self-ticket-requires
+self-ticket-requires c κs =
+    let x = c .before .before .before .before .before .before .before .account-at2 .result in
+    let y = c .before .before .before .before .before .before .before .before .account-at .result in
+    let w = c .before .before .before .before .before .before .grant-window .result in
+    let m = c .before .before .before .before .before .before .before .before .before .before .before .args .m in (
+      last-count m w
+          (right-held (userChecks x) (lastChecks m w)
+          (rest-held (selfCheck y) (userChecks x ++ lastChecks m w)
+          (sym (self-answer (c .before .before .before .before .before .before .before .account-at2 .result) (c .before .before .before .before .before .before .before .before .account-at .result) (c .before .before .before .before .before .before .before .before .before .before .before .args .m) (c .before .before .before .before .before .before .grant-window .result) (c .before .before .before .before .before .check-last .result) (c .before .before .before .before .check-user .result) (c .before .before .unless .result) (c .before .before .before .before .before .check-last .ensures) (c .before .before .before .before .check-user .ensures) (rw (c .before .before .before .is-service .ensures) at (c .before .before .unless .ensures))) ∙ is-accepted (c .before .before .unless .result) (sym (c .before .is-accepted .ensures) ∙ c .if1 .taken)))),
+      search needs,
+    )
+
+returns : tie.Need-returns
+returns c =
+    let a = c .before .before .before .before .before .before .before .before .before .before .before .before .before .args in
+    λ h k.
+    c .grant .ensures
+    ∙ self-granted (tableOf (now (a .words))) (a .q) h (a .m) (a .u) k (c .before .before .before .before .before .before .before .before .before .account-at2 .result) (c .before .before .before .before .before .before .before .before .before .before .account-at .result) (c .before .before .before .before .before .before .before .before .grant-window .result) (c .before .before .before .before .unless .result)
+    (c .before .before .before .before .before .before .before .before .before .account-at2 .ensures) (c .before .before .before .before .before .before .before .before .before .before .account-at .ensures) (c .before .before .before .before .before .before .before .before .grant-window .ensures) (self-answer (c .before .before .before .before .before .before .before .before .before .account-at2 .result) (c .before .before .before .before .before .before .before .before .before .before .account-at .result) (c .before .before .before .before .before .before .before .before .before .before .before .before .before .args .m) (c .before .before .before .before .before .before .before .before .grant-window .result) (c .before .before .before .before .before .before .before .check-last .result) (c .before .before .before .before .before .before .check-user .result) (c .before .before .before .before .unless .result) (c .before .before .before .before .before .before .before .check-last .ensures) (c .before .before .before .before .before .before .check-user .ensures) (rw (c .before .before .before .before .before .is-service .ensures) at (c .before .before .before .before .unless .ensures))) (c .before .self-ticket .result)
+    (sym (c .before .before .before .is-accepted .ensures) ∙ c .before .before .if1 .taken) (c .before .self-ticket .ensures)
+
+returns-2 : tie.Need-returns-2
+returns-2 c =
+    let a = c .before .before .before .before .before .before .before .before .before .before .before .before .args in
+    λ h k.
+    c .refuse .ensures
+    ∙ self-refused (tableOf (now (a .words))) (a .q) h (a .m) (a .u) k (c .before .before .before .before .before .before .before .before .account-at2 .result) (c .before .before .before .before .before .before .before .before .before .account-at .result) (c .before .before .before .before .before .before .before .grant-window .result) (c .before .before .before .unless .result)
+    (c .before .before .before .before .before .before .before .before .account-at2 .ensures) (c .before .before .before .before .before .before .before .before .before .account-at .ensures) (c .before .before .before .before .before .before .before .grant-window .ensures) (self-answer (c .before .before .before .before .before .before .before .before .account-at2 .result) (c .before .before .before .before .before .before .before .before .before .account-at .result) (c .before .before .before .before .before .before .before .before .before .before .before .before .args .m) (c .before .before .before .before .before .before .before .grant-window .result) (c .before .before .before .before .before .before .check-last .result) (c .before .before .before .before .before .check-user .result) (c .before .before .before .unless .result) (c .before .before .before .before .before .before .check-last .ensures) (c .before .before .before .before .before .check-user .ensures) (rw (c .before .before .before .before .is-service .ensures) at (c .before .before .before .unless .ensures)))
+    (sym (c .before .before .is-accepted .ensures) ∙ c .before .if1 .left)
+
+pub decide-self-spec : {M : Type 1} → statement M
+decide-self-spec =
+    tie.close
+    (tie.spec (λ c. search needs) (λ c κs. search needs) (λ c κs. search needs) (λ c κs. search needs)
+    (λ c κs. search needs) (λ c κs. search needs) (λ c κs. search needs) (λ c κs. search needs) (λ c κs. search needs)
+    self-ticket-requires (λ c κs. search needs) (λ c κs. search needs) returns returns-2)

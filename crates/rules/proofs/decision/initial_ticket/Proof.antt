@@ -1,0 +1,15 @@
+use Rattle.rules.specs.Decisions.{initialTicket}
+use borrow.Author.Needs.{needs}
+use Rattle.rules.proofs.decision.initial_ticket.Statement.{statement}
+use Rattle.rules.proofs.decision.initial_ticket.Tie as tie
+
+returns : tie.Need-returns
+unfolding initialTicket
+returns c =
+    simp (c .flags-of .ensures, c .before .both .ensures, c .before .before .has-bit .ensures, c .before .before .before .before .before .is-barred .ensures)
+
+pub initial-ticket-spec : {M : Type 1} → statement M
+initial-ticket-spec =
+    tie.close
+    (tie.spec (λ c κs. search needs) (λ c. search needs) (λ c. search needs) (λ c κs. search needs)
+    (λ c κs. search needs) (λ c κs. search needs) (λ c. search needs) returns)

@@ -1,0 +1,12 @@
+use Rattle.rules.specs.Names.{goodByte}
+use borrow.Author.Needs.{needs}
+use Rattle.rules.proofs.name.good_byte.Statement.{statement}
+use Rattle.rules.proofs.name.good_byte.Tie as tie
+
+returns : tie.Need-returns
+returns c = simp (c .both2 .ensures, c .before .both .ensures)
+
+pub good-byte-spec : {M : Type 1} → statement M
+good-byte-spec =
+    tie.close
+    (tie.spec (λ c κs. search needs) (λ c κs. search needs) returns)

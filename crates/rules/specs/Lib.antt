@@ -1,0 +1,5 @@
+pub mod Accounts
+pub mod Names
+pub mod Checks
+pub mod Edits
+pub mod Decisions

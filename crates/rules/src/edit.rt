@@ -1,0 +1,98 @@
+// Edits: an edit sets one account whole, and the first fixes its name (document 01, "Accounts" and the row 60, 12, 8 of "Error numbers").
+use crate::ACCOUNTS;
+use crate::Account;
+use crate::account_at;
+use crate::both;
+use crate::check::is_accepted;
+use crate::count_words;
+use crate::name::good_name;
+use crate::name::has_name;
+use crate::name::name_taken;
+use crate::pack;
+use crate::put_row;
+use record::Answer;
+use record::Error;
+ghost use mathlib.Core.Path.{_≡_};
+ghost use Prim.Native.Nat.{ℕ, _<_, _≤_};
+ghost use lib.ListN.{length};
+ghost use Rattle.rules.specs.Accounts.{tableOf, storeRow};
+ghost use Rattle.rules.specs.Edits.{editOf, readable, keepsName, editAnswer, editRow, edited, storedBy};
+
+// Whether an edit's number, name and flags are good.
+fn readable_edit(number: u32, name: &[u8], flags: u32) -> bool
+    ensures { λ r. ⌜ ((s p : ℕ) (l : ℕ) → r ≡ readable (editOf number (now (name .entry)) flags s p l)) ⌝ }
+{
+    both(number <= 63, both(good_name(name), flags <= 15))
+}
+
+// Whether an account is not set yet, or has this name, byte for byte.
+fn keeps_name(words: &[u64; ACCOUNTS], number: usize, name: &[u8]) -> bool
+    ensures { λ r. ⌜ ((f s p l : ℕ) → r ≡ keepsName (tableOf (now (words .entry))) (editOf number (now (name .entry)) f s p l)) ⌝ }
+{
+    let account = account_at(words, number);
+    if account.known {
+        has_name(words, number, false, name)
+    } else {
+        true
+    }
+}
+
+// What an edit answers: 60, 12 or 8, else that it is stored.
+fn check_edit(words: &[u64; ACCOUNTS], number: u32, name: &[u8], flags: u32) -> Answer
+    ensures { λ r. ⌜ ((s p l : ℕ) → r ≡ editAnswer (tableOf (now (words .entry))) (editOf number (now (name .entry)) flags s p l)) ⌝ }
+{
+    if !readable_edit(number, name, flags) {
+        return Answer::Refused(Error::KRB_ERR_GENERIC);
+    }
+    let n = number as usize;
+    if !keeps_name(words, n, name) {
+        return Answer::Refused(Error::KDC_ERR_POLICY);
+    }
+    if name_taken(words, n, name) {
+        return Answer::Refused(Error::KDC_ERR_PRINCIPAL_NOT_UNIQUE);
+    }
+    Answer::Accepted
+}
+
+// Stores a row that is set.
+fn store_row(
+    words: &mut [u64; ACCOUNTS],
+    n: usize,
+    name: &[u8],
+    flags: u32,
+    send: u64,
+    receive: u64,
+    lifetime: u32,
+)
+    requires { ⌜ (n < 64) × (length (now name) ≤ 24) × (flags ≤ 15) ⌝ }
+    ensures { λ _. ⌜ now (words .exit) ≡ storeRow (now (words .entry)) n (editRow (editOf n (now (name .entry)) flags send receive lifetime)) ⌝ }
+{
+    let detail = name.len() as u64 + 256 * flags as u64 + 4294967296 * lifetime as u64;
+    let a = pack(name, 0);
+    let b = pack(name, 8);
+    let c = pack(name, 16);
+    put_row(words, 6 * n, a, b, c, detail, send, receive);
+}
+
+// Sets one account whole, or refuses.
+pub fn edit_account(
+    words: &mut [u64; ACCOUNTS],
+    number: u32,
+    name: &[u8],
+    flags: u32,
+    send: u64,
+    receive: u64,
+    lifetime: u32,
+) -> Answer
+    ensures answer { λ r. ⌜ r ≡ editAnswer (tableOf (now (words .entry))) (editOf number (now (name .entry)) flags send receive lifetime) ⌝ }
+    ensures words { λ r. ⌜ now (words .exit) ≡ storedBy r (now (words .entry)) (editOf number (now (name .entry)) flags send receive lifetime) ⌝ }
+    ensures table { λ _. ⌜ tableOf (now (words .exit)) ≡ edited (tableOf (now (words .entry))) (editOf number (now (name .entry)) flags send receive lifetime) ⌝ }
+{
+    let answer = check_edit(words, number, name, flags);
+    // That every row has its six words among those that are lent is known from here on.
+    count_words(words);
+    if is_accepted(answer) {
+        store_row(words, number as usize, name, flags, send, receive, lifetime);
+    }
+    answer
+}

@@ -1,0 +1,114 @@
+// Names: which are good, which match, and which account a name stands for (document 01, "Accounts").
+use crate::ACCOUNTS;
+use crate::both;
+use crate::byte_at;
+use crate::length_at;
+use crate::set_length;
+ghost use mathlib.Core.Path.{_≡_};
+ghost use mathlib.Core.Bool.{_&&_};
+ghost use Prim.Native.Nat.{_+_, _*_, _<_, _≤_};
+ghost use lib.ListN.{length};
+ghost use Rattle.rules.specs.Accounts.{rowOf, tableOf, nameAt};
+ghost use Rattle.rules.specs.Names.{goodByte, goodName, lower, folded, agree, sameName, findName, taken};
+
+// Whether a byte may stand in a name.
+fn good_byte(c: u8) -> bool
+    ensures { λ r. ⌜ r ≡ goodByte c ⌝ }
+{
+    both(0x21 <= c, both(c <= 0x7E, c != 0x40))
+}
+
+// Whether a name is 1 to 24 good bytes.
+pub fn good_name(name: &[u8]) -> bool
+    ensures { λ r. ⌜ r ≡ goodName (now (name .entry)) ⌝ }
+{
+    if !set_length(name.len()) {
+        return false;
+    }
+    let mut i = 0;
+    while i < name.len() {
+        if !good_byte(name[i]) {
+            return false;
+        }
+        i += 1;
+    }
+    true
+}
+
+// A capital letter as the small one, any other byte as itself.
+fn to_lower(c: u8) -> u8
+    ensures { λ r. ⌜ r ≡ lower c ⌝ }
+{
+    if both(0x41 <= c, c <= 0x5A) {
+        c + 32
+    } else {
+        c
+    }
+}
+
+// A byte with letter case ignored, or as it is.
+fn fold(ignore: bool, c: u8) -> u8
+    ensures { λ r. ⌜ r ≡ folded ignore c ⌝ }
+{
+    if ignore { to_lower(c) } else { c }
+}
+
+// Whether the first bytes of a row's name and those of another agree.
+fn agrees(words: &[u64; ACCOUNTS], n: usize, ignore: bool, name: &[u8]) -> bool
+    requires { ⌜ (n < 64) × (length (now name) ≤ 24) ⌝ }
+    ensures { λ r. ⌜ r ≡ agree ignore (nameAt (now (words .entry)) (6 * n) (length (now (name .entry)))) (now (name .entry)) (length (now (name .entry))) ⌝ }
+{
+    let mut i = 0;
+    while i < name.len() {
+        if fold(ignore, byte_at(words, n, i)) != fold(ignore, name[i]) {
+            return false;
+        }
+        i += 1;
+    }
+    true
+}
+
+// Whether a row is set and has a name, with letter case ignored or not. The length is looked at first.
+pub fn has_name(words: &[u64; ACCOUNTS], n: usize, ignore: bool, name: &[u8]) -> bool
+    ensures { λ r. ⌜ r ≡ (rowOf (tableOf (now (words .entry))) n .account .known && sameName ignore (rowOf (tableOf (now (words .entry))) n .name) (now (name .entry))) ⌝ }
+{
+    if 64 <= n {
+        return false;
+    }
+    if length_at(words, n) != name.len() {
+        return false;
+    }
+    if !set_length(name.len()) {
+        return false;
+    }
+    agrees(words, n, ignore, name)
+}
+
+// The lowest account that is set and matches a name; 64 where none does.
+pub fn find_name(words: &[u64; ACCOUNTS], name: &[u8]) -> usize
+    ensures exact { λ r. ⌜ r ≡ findName (tableOf (now (words .entry))) (now (name .entry)) ⌝ }
+    ensures bounded { λ r. ⌜ r ≤ 64 ⌝ }
+{
+    let mut i = 0;
+    while i < 64 {
+        if has_name(words, i, true, name) {
+            return i;
+        }
+        i += 1;
+    }
+    64
+}
+
+// Whether another account than a given one is set and matches a name.
+pub fn name_taken(words: &[u64; ACCOUNTS], number: usize, name: &[u8]) -> bool
+    ensures { λ r. ⌜ r ≡ taken number 0 (tableOf (now (words .entry))) (now (name .entry)) ⌝ }
+{
+    let mut i = 0;
+    while i < 64 {
+        if both(i != number, has_name(words, i, true, name)) {
+            return true;
+        }
+        i += 1;
+    }
+    false
+}
