@@ -1,6 +1,6 @@
 // Checks in the order of document 01, "Error numbers": the first that fails gives the answer.
-use crate::ACCOUNTS;
 use crate::Account;
+use crate::AccountWords;
 use crate::account_at;
 use crate::both;
 use crate::decision::Held;
@@ -96,7 +96,7 @@ fn is_held(held: Held, ticket: Ticket) -> bool
 }
 
 // The checks of the output and the TGT: 52; 41, 35, 33, 32, 18.
-pub fn check_tgt(words: &[u64; ACCOUNTS], m: Moment, tgt: Ticket, held: Held) -> Answer
+pub fn check_tgt(words: &AccountWords, m: Moment, tgt: Ticket, held: Held) -> Answer
     ensures { λ r. ⌜ r ≡ judge (roomCheck m ∷ tgtChecks (tableOf (now (words .entry))) m tgt held) ⌝ }
 {
     let origin = tgt.origin;
@@ -122,7 +122,7 @@ pub fn check_tgt(words: &[u64; ACCOUNTS], m: Moment, tgt: Ticket, held: Held) ->
 
 // The checks of the evidence: 41, 33, 32, 26, 18.
 pub fn check_evidence(
-    words: &[u64; ACCOUNTS],
+    words: &AccountWords,
     m: Moment,
     evidence: Ticket,
     held: Held,

@@ -1,6 +1,6 @@
 // The four decisions: which ticket a request is given, or which number refuses it (document 01, "Decisions").
-use crate::ACCOUNTS;
 use crate::Account;
+use crate::AccountWords;
 use crate::account_at;
 use crate::both;
 use crate::check::and_then;
@@ -73,7 +73,7 @@ fn grant(ticket: Ticket) -> Decision
 }
 
 // The account that a name in the request's bytes stands for.
-fn named(words: &[u64; ACCOUNTS], bytes: &[u8], span: Span) -> usize
+fn named(words: &AccountWords, bytes: &[u8], span: Span) -> usize
     ensures exact { λ r. ⌜ r ≡ findName (tableOf (now (words .entry))) (partOf (now (bytes .entry)) span) ⌝ }
     ensures bounded { λ r. ⌜ r ≤ 64 ⌝ }
 {
@@ -284,7 +284,7 @@ fn proxy_ticket(m: Moment, tgt: Ticket, evidence: Ticket, s: usize, window: Wind
 }
 
 // Kind 1 for a user, once the output is found long enough.
-fn decide_initial(words: &[u64; ACCOUNTS], q: Request, m: Moment, u: usize) -> Decision
+fn decide_initial(words: &AccountWords, q: Request, m: Moment, u: usize) -> Decision
     requires { ⌜ (u ≤ 64) × (31 ≤ m .room) ⌝ }
     ensures { λ r. ⌜ r ≡ decideInitial (tableOf (now (words .entry))) q m u ⌝ }
 {
@@ -299,7 +299,7 @@ fn decide_initial(words: &[u64; ACCOUNTS], q: Request, m: Moment, u: usize) -> D
 }
 
 // Kind 2 to a service, once the TGT is found good.
-fn decide_direct(words: &[u64; ACCOUNTS], q: Request, m: Moment, s: usize) -> Decision
+fn decide_direct(words: &AccountWords, q: Request, m: Moment, s: usize) -> Decision
     requires { ⌜ s ≤ 64 ⌝ }
     ensures { λ r. ⌜ ((h : Held) → judge (roomCheck m ∷ tgtChecks (tableOf (now (words .entry))) m (q .tgt) h) ≡ Answer.Accepted → r ≡ decideDirect (tableOf (now (words .entry))) q h m s) ⌝ }
 {
@@ -316,7 +316,7 @@ fn decide_direct(words: &[u64; ACCOUNTS], q: Request, m: Moment, s: usize) -> De
 }
 
 // Kind 3 for a user, once the TGT is found good.
-fn decide_self(words: &[u64; ACCOUNTS], q: Request, m: Moment, u: usize) -> Decision
+fn decide_self(words: &AccountWords, q: Request, m: Moment, u: usize) -> Decision
     requires { ⌜ u ≤ 64 ⌝ }
     ensures { λ r. ⌜ ((h : Held) → judge (roomCheck m ∷ tgtChecks (tableOf (now (words .entry))) m (q .tgt) h) ≡ Answer.Accepted → r ≡ decideSelf (tableOf (now (words .entry))) q h m u) ⌝ }
 {
@@ -361,7 +361,7 @@ fn check_hop(
 }
 
 // Kind 4 to a service, once the TGT and the evidence are found good.
-fn decide_proxy(words: &[u64; ACCOUNTS], q: Request, m: Moment, s: usize) -> Decision
+fn decide_proxy(words: &AccountWords, q: Request, m: Moment, s: usize) -> Decision
     requires { ⌜ s ≤ 64 ⌝ }
     ensures { λ r. ⌜ ((h k : Held) → judge ((roomCheck m ∷ tgtChecks (tableOf (now (words .entry))) m (q .tgt) h) ++ evidenceChecks (tableOf (now (words .entry))) m (q .evidence) k (q .tgt)) ≡ Answer.Accepted → r ≡ decideProxy (tableOf (now (words .entry))) q h k m s) ⌝ }
 {
@@ -379,7 +379,7 @@ fn decide_proxy(words: &[u64; ACCOUNTS], q: Request, m: Moment, s: usize) -> Dec
 }
 
 // Kind 1.
-fn initial(words: &[u64; ACCOUNTS], bytes: &[u8], q: Request, m: Moment) -> Decision
+fn initial(words: &AccountWords, bytes: &[u8], q: Request, m: Moment) -> Decision
     ensures { λ r. ⌜ r ≡ decideInitial (tableOf (now (words .entry))) q m (userOf (tableOf (now (words .entry))) (now (bytes .entry)) q) ⌝ }
 {
     if m.room < 31 {
@@ -390,7 +390,7 @@ fn initial(words: &[u64; ACCOUNTS], bytes: &[u8], q: Request, m: Moment) -> Deci
 }
 
 // Kind 2.
-fn direct(words: &[u64; ACCOUNTS], bytes: &[u8], q: Request, held: Held, m: Moment) -> Decision
+fn direct(words: &AccountWords, bytes: &[u8], q: Request, held: Held, m: Moment) -> Decision
     ensures { λ r. ⌜ r ≡ decideDirect (tableOf (now (words .entry))) q held m (serviceOf (tableOf (now (words .entry))) (now (bytes .entry)) q) ⌝ }
 {
     let tgt = q.tgt;
@@ -404,7 +404,7 @@ fn direct(words: &[u64; ACCOUNTS], bytes: &[u8], q: Request, held: Held, m: Mome
 }
 
 // Kind 3.
-fn self_issued(words: &[u64; ACCOUNTS], bytes: &[u8], q: Request, held: Held, m: Moment) -> Decision
+fn self_issued(words: &AccountWords, bytes: &[u8], q: Request, held: Held, m: Moment) -> Decision
     ensures { λ r. ⌜ r ≡ decideSelf (tableOf (now (words .entry))) q held m (userOf (tableOf (now (words .entry))) (now (bytes .entry)) q) ⌝ }
 {
     let tgt = q.tgt;
@@ -419,7 +419,7 @@ fn self_issued(words: &[u64; ACCOUNTS], bytes: &[u8], q: Request, held: Held, m:
 
 // Kind 4.
 fn proxy(
-    words: &[u64; ACCOUNTS],
+    words: &AccountWords,
     bytes: &[u8],
     q: Request,
     held: Held,
@@ -442,7 +442,7 @@ fn proxy(
 
 // What a request is answered, given the accounts, the request's bytes, and what the ledger holds at the numbers of its TGT and its evidence.
 pub fn decide(
-    words: &[u64; ACCOUNTS],
+    words: &AccountWords,
     bytes: &[u8],
     q: Request,
     tgt: Held,

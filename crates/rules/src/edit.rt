@@ -1,6 +1,6 @@
 // Edits: an edit sets one account whole, and the first fixes its name (document 01, "Accounts" and the row 60, 12, 8 of "Error numbers").
-use crate::ACCOUNTS;
 use crate::Account;
+use crate::AccountWords;
 use crate::account_at;
 use crate::both;
 use crate::check::is_accepted;
@@ -26,7 +26,7 @@ fn readable_edit(number: u32, name: &[u8], flags: u32) -> bool
 }
 
 // Whether an account is not set yet, or has this name, byte for byte.
-fn keeps_name(words: &[u64; ACCOUNTS], number: usize, name: &[u8]) -> bool
+fn keeps_name(words: &AccountWords, number: usize, name: &[u8]) -> bool
     ensures { λ r. ⌜ ((f s p l : ℕ) → r ≡ keepsName (tableOf (now (words .entry))) (editOf number (now (name .entry)) f s p l)) ⌝ }
 {
     let account = account_at(words, number);
@@ -38,7 +38,7 @@ fn keeps_name(words: &[u64; ACCOUNTS], number: usize, name: &[u8]) -> bool
 }
 
 // What an edit answers: 60, 12 or 8, else that it is stored.
-fn check_edit(words: &[u64; ACCOUNTS], number: u32, name: &[u8], flags: u32) -> Answer
+fn check_edit(words: &AccountWords, number: u32, name: &[u8], flags: u32) -> Answer
     ensures { λ r. ⌜ ((s p l : ℕ) → r ≡ editAnswer (tableOf (now (words .entry))) (editOf number (now (name .entry)) flags s p l)) ⌝ }
 {
     if !readable_edit(number, name, flags) {
@@ -56,7 +56,7 @@ fn check_edit(words: &[u64; ACCOUNTS], number: u32, name: &[u8], flags: u32) -> 
 
 // Stores a row that is set.
 fn store_row(
-    words: &mut [u64; ACCOUNTS],
+    words: &mut AccountWords,
     n: usize,
     name: &[u8],
     flags: u32,
@@ -76,7 +76,7 @@ fn store_row(
 
 // Sets one account whole, or refuses.
 pub fn edit_account(
-    words: &mut [u64; ACCOUNTS],
+    words: &mut AccountWords,
     number: u32,
     name: &[u8],
     flags: u32,

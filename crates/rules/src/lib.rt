@@ -22,6 +22,9 @@ ghost use Rattle.rules.specs.Accounts.{neverSet, Row, rowAt, account, ta
 
 pub const ACCOUNTS: usize = 384;
 
+// The words of 64 rows.
+pub type AccountWords = [u64; ACCOUNTS];
+
 // An account. One that was never set is not known, and disabled.
 pub struct Account {
     pub known: bool,
@@ -73,7 +76,7 @@ fn set_length(length: usize) -> bool
 }
 
 // The stored length of a row's name.
-fn length_at(words: &[u64; ACCOUNTS], n: usize) -> usize
+fn length_at(words: &AccountWords, n: usize) -> usize
     requires { ⌜ n < 64 ⌝ }
     ensures { λ r. ⌜ r ≡ lengthAt (now (words .entry)) n ⌝ }
 {
@@ -81,7 +84,7 @@ fn length_at(words: &[u64; ACCOUNTS], n: usize) -> usize
 }
 
 // A byte of a row's name.
-fn byte_at(words: &[u64; ACCOUNTS], n: usize, k: usize) -> u8
+fn byte_at(words: &AccountWords, n: usize, k: usize) -> u8
     requires { ⌜ (n < 64) × (k < 24) ⌝ }
     ensures { λ r. ⌜ r ≡ byteAt (now (words .entry)) (6 * n) k ⌝ }
 {
@@ -89,7 +92,7 @@ fn byte_at(words: &[u64; ACCOUNTS], n: usize, k: usize) -> u8
 }
 
 // The account of a row.
-fn row_at(words: &[u64; ACCOUNTS], n: usize) -> Account
+fn row_at(words: &AccountWords, n: usize) -> Account
     requires { ⌜ n < 64 ⌝ }
     ensures { λ r. ⌜ r ≡ rowAt (now (words .entry)) n .account ⌝ }
 {
@@ -108,7 +111,7 @@ fn row_at(words: &[u64; ACCOUNTS], n: usize) -> Account
 }
 
 // The account of a number, one never set where the number is above 63.
-pub fn account_at(words: &[u64; ACCOUNTS], number: usize) -> Account
+pub fn account_at(words: &AccountWords, number: usize) -> Account
     ensures { λ r. ⌜ r ≡ account (tableOf (now (words .entry))) number ⌝ }
 {
     if number < 64 {
@@ -133,7 +136,7 @@ fn pack(name: &[u8], from: usize) -> u64
 }
 
 // Puts the six words of a row.
-fn put_row(words: &mut [u64; ACCOUNTS], at: usize, a: u64, b: u64, c: u64, d: u64, e: u64, f: u64)
+fn put_row(words: &mut AccountWords, at: usize, a: u64, b: u64, c: u64, d: u64, e: u64, f: u64)
     requires { ⌜ at + 6 ≤ 384 ⌝ }
     ensures { λ _. ⌜ now (words .exit) ≡ putRow (now (words .entry)) at (a ∷ b ∷ c ∷ d ∷ e ∷ f ∷ []) ⌝ }
 {
@@ -146,7 +149,7 @@ fn put_row(words: &mut [u64; ACCOUNTS], at: usize, a: u64, b: u64, c: u64, d: u6
 }
 
 // A table without accounts.
-pub fn fresh_accounts(words: &mut [u64; ACCOUNTS])
+pub fn fresh_accounts(words: &mut AccountWords)
     ensures { λ _. ⌜ now (words .exit) ≡ replicate 384 0 ⌝ }
 {
     *words = [0u64; ACCOUNTS];

@@ -1,5 +1,5 @@
 // Names: which are good, which match, and which account a name stands for (document 01, "Accounts").
-use crate::ACCOUNTS;
+use crate::AccountWords;
 use crate::both;
 use crate::byte_at;
 use crate::length_at;
@@ -54,7 +54,7 @@ fn fold(ignore: bool, c: u8) -> u8
 }
 
 // Whether the first bytes of a row's name and those of another agree.
-fn agrees(words: &[u64; ACCOUNTS], n: usize, ignore: bool, name: &[u8]) -> bool
+fn agrees(words: &AccountWords, n: usize, ignore: bool, name: &[u8]) -> bool
     requires { ⌜ (n < 64) × (length (now name) ≤ 24) ⌝ }
     ensures { λ r. ⌜ r ≡ agree ignore (nameAt (now (words .entry)) (6 * n) (length (now (name .entry)))) (now (name .entry)) (length (now (name .entry))) ⌝ }
 {
@@ -69,7 +69,7 @@ fn agrees(words: &[u64; ACCOUNTS], n: usize, ignore: bool, name: &[u8]) -> bool
 }
 
 // Whether a row is set and has a name, with letter case ignored or not. The length is looked at first.
-pub fn has_name(words: &[u64; ACCOUNTS], n: usize, ignore: bool, name: &[u8]) -> bool
+pub fn has_name(words: &AccountWords, n: usize, ignore: bool, name: &[u8]) -> bool
     ensures { λ r. ⌜ r ≡ (rowOf (tableOf (now (words .entry))) n .account .known && sameName ignore (rowOf (tableOf (now (words .entry))) n .name) (now (name .entry))) ⌝ }
 {
     if 64 <= n {
@@ -85,7 +85,7 @@ pub fn has_name(words: &[u64; ACCOUNTS], n: usize, ignore: bool, name: &[u8]) ->
 }
 
 // The lowest account that is set and matches a name; 64 where none does.
-pub fn find_name(words: &[u64; ACCOUNTS], name: &[u8]) -> usize
+pub fn find_name(words: &AccountWords, name: &[u8]) -> usize
     ensures exact { λ r. ⌜ r ≡ findName (tableOf (now (words .entry))) (now (name .entry)) ⌝ }
     ensures bounded { λ r. ⌜ r ≤ 64 ⌝ }
 {
@@ -100,7 +100,7 @@ pub fn find_name(words: &[u64; ACCOUNTS], name: &[u8]) -> usize
 }
 
 // Whether another account than a given one is set and matches a name.
-pub fn name_taken(words: &[u64; ACCOUNTS], number: usize, name: &[u8]) -> bool
+pub fn name_taken(words: &AccountWords, number: usize, name: &[u8]) -> bool
     ensures { λ r. ⌜ r ≡ taken number 0 (tableOf (now (words .entry))) (now (name .entry)) ⌝ }
 {
     let mut i = 0;
