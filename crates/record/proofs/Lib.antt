@@ -6,4 +6,5 @@ pub mod TicketRecords
 pub mod Output
 pub mod RoundTrip
 pub mod Requests
+pub mod Presented
 pub mod Cases

@@ -1,7 +1,7 @@
 -- Laws of names: runs that agree, good bytes, and the search for an account.
 -- Assumes nothing.
 use mathlib.Core.Path.{_≡_, refl, sym, ap, _∙_}
-use mathlib.Core.Bool.{Bool, true, false, not, _&&_, false≢true, and-true, and-false}
+use mathlib.Core.Bool.{Bool, true, false, not, _&&_, cond, false≢true}
 use mathlib.Core.List.{List, [], _∷_}
 use mathlib.Core.Logic.{_⊎_, inl, inr}
 use Prim.Native.Nat.{ℕ, zero, suc, _+_, _-_, _*_, _≤_, _<_}
@@ -142,3 +142,15 @@ taken-on w k i s l h =
 pub taken-end : (w : List ℕ) (k i : ℕ) (s : List ℕ) → i ≡ 64 → taken k i (rowsFrom w i (64 - i)) s ≡ false
 unfolding rowsFrom taken
 taken-end w k i s e = rw e
+
+cond-most : (p : Bool) (m n k : ℕ) → m ≤ k → n ≤ k → cond p m n ≤ k
+cond-most true m n k h g = h
+cond-most false m n k h g = g
+
+-- no account past the table's last is found
+pub found-most : (a : Table) (n : ℕ) (s : List ℕ) → numberFrom n a s ≤ n + length a
+unfolding numberFrom
+found-most [] n s = omega arith
+found-most (x ∷ xs) n s =
+    let h = found-most xs (n + 1) s in
+    cond-most (matches x s) n (numberFrom (n + 1) xs s) (n + length (x ∷ xs)) (omega arith) (omega arith)

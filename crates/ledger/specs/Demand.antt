@@ -1,0 +1,45 @@
+-- Demand 3, as one statement about every list of edits and requests from a fresh service. Document 01, "The plain book" and "Lawful descent".
+-- Assumes nothing.
+use mathlib.Core.Path.{_≡_}
+use mathlib.Core.List.{List, [], _∷_, map, List·Memᴰ}
+use mathlib.Core.Option.{some}
+use Rattle.record.specs.declared.errors.Answer.{Answer}
+use Rattle.record.specs.declared.errors.Answer.the-variants.{Accepted, Refused}
+use Rattle.record.specs.declared.ticket.Ticket.{Ticket}
+use Rattle.rules.specs.Accounts.{tableOf}
+use Rattle.ledger.specs.Words.{ticketsOf}
+use Rattle.ledger.specs.Book.{Call, edit, request, Reply, Note, Book, ticketOf, tickets, emptyBook, after, replies}
+use Rattle.ledger.specs.Descent.{Lawful, descent}
+use Rattle.ledger.specs.History.{Service, freshService, Turn, callOf, replyOf, History}
+
+-- the tickets that the granted requests returned, in their order
+abbrev pub returned : Answer → Ticket → List Ticket → List Ticket
+returned Accepted t l = t ∷ l
+returned (Refused e) t l = l
+
+abbrev pub returnedBy : Call → Reply → List Ticket → List Ticket
+returnedBy (edit e) r l = l
+returnedBy (request s clock o) r l = returned (r .answer) (r .ticket) l
+
+abbrev pub granted : List Turn → List Ticket
+granted [] = []
+granted (t ∷ ts) = returnedBy (t .call) (t .reply) (granted ts)
+
+-- the book has a note of the ticket, it has lawful descent there, and the descent call counts its steps
+pub record Descends (ns : List Note) (t : Ticket) : Type 0 where
+  pub note : Note
+  pub of-ticket : note .ticket ≡ t
+  pub in-book : List·Memᴰ note ns
+  pub lawful : Lawful ns note
+  pub counted : descent (map ticketOf ns) (t .number) ≡ some (lawful .steps)
+
+-- what holds of a list of calls with their replies, the book after the same calls, and the service that they left
+pub record Upheld (ts : List Turn) (b : Book) (s : Service) : Type 0 where
+  pub ledger-is-granted : ticketsOf (s .ledger) ≡ granted ts
+  pub same-ledger : ticketsOf (s .ledger) ≡ tickets b
+  pub same-table : tableOf (s .accounts) ≡ b .table
+  pub same-replies : map replyOf ts ≡ replies emptyBook (map callOf ts)
+  pub lawful-descent : (t : Ticket) → List·Memᴰ t (ticketsOf (s .ledger)) → Descends (b .notes) t
+
+abbrev pub Demand3 : Type 0
+Demand3 = (ts : List Turn) (s : Service) → History freshService ts s → Upheld ts (after emptyBook (map callOf ts)) s
