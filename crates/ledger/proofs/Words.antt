@@ -3,8 +3,8 @@
 use mathlib.Core.Path.{_≡_, refl, sym, ap, _∙_}
 use mathlib.Core.Bool.{Bool, true, false}
 use mathlib.Core.List.{List, [], _∷_, _++_}
-use Prim.Native.Nat.{ℕ, zero, suc, _+_, _*_, _/_, _%_, _≤_, _<_, min}
-use native.Mathlib.Nat.{add-zero, zero-add}
+use Prim.Native.Nat.{ℕ, zero, suc, _+_, _-_, _*_, _/_, _%_, _^_, _≤_, _<_, min}
+use native.Mathlib.Nat.{add-zero, zero-add, pow-suc}
 use native.Mathlib.Numerals.{add-one}
 use native.Mathlib.Omega.{arith}
 use lib.Arith.{digits-div, digits-mod}
@@ -18,7 +18,7 @@ use Rattle.record.specs.declared.ticket.Origin.{Origin}
 use Rattle.record.specs.declared.ticket.Origin.the-variants.{Initial, Direct, SelfIssued, Delegated}
 use Rattle.record.specs.declared.ticket.Ticket.{Ticket}
 use Rattle.rules.specs.Accounts.{packAt, putRow}
-use Rattle.rules.proofs.Accounts.{put-length, put-other, put-at, pack-digit}
+use Rattle.rules.proofs.Accounts.{put-length, put-other, put-at, pack-step, pack-digit}
 use Rattle.ledger.specs.Words.{originIn, trailIn, ticketIn, ticketAt, countOf, ticketsFrom, ticketsOf, tagOf, markOf, ticketWords, storeTicket, noTickets}
 
 -- the tickets of n places
@@ -30,6 +30,13 @@ tickets-from-length w i (suc n) = ap suc (tickets-from-length w (i + 1) n)
 pub tickets-length : (w : List ℕ) → length (ticketsOf w) ≡ countOf w
 unfolding ticketsOf
 tickets-length w = tickets-from-length w 0 (countOf w)
+
+-- those of the count's places, of which none is passed
+pub tickets-start : (w : List ℕ) (n : ℕ) → n ≡ countOf w → ticketsOf w ≡ ticketsFrom w 0 (n - 0)
+unfolding ticketsOf
+tickets-start w n e =
+    let f : n - 0 ≡ countOf w = omega arith in
+    rw f
 
 -- words that are all 0 hold no tickets
 pub tickets-none : ticketsOf noTickets ≡ []
@@ -68,6 +75,16 @@ trail-back s h b =
       pack-digit s b 0 8 6 (omega arith),
       pack-digit s b 0 8 7 (omega arith),
     ) (sym (eight s h))
+
+-- one byte more of a trail's word, from its end on
+pub pack-more : (s : List ℕ) (i x b : ℕ) → 0 < i → i ≤ 8 → x ≡ packAt s i (8 - i) → b ≡ getD s (i - 1) 0
+    → b + 256 * x ≡ packAt s (i - 1) (8 - (i - 1))
+pack-more s i x b h l e q = rw (e, q) (simp zero-add at (pack-step s 0 i h l))
+
+pub pack-small : (i x b : ℕ) → 0 < i → i ≤ 8 → x < 256 ^ (8 - i) → b < 256 → b + 256 * x < 256 ^ (8 - (i - 1))
+pack-small i x b h l m r =
+    let e : 8 - (i - 1) ≡ suc (8 - i) = omega arith in
+    rw (e, pow-suc 256 (8 - i)) (omega arith)
 
 -- the fields of a third word
 record Parts (x t k h n e : ℕ) : Type 0 where
