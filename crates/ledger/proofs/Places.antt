@@ -1,10 +1,9 @@
 -- Laws of what is held: the search for a number, place after place.
 -- Assumes nothing.
-use mathlib.Core.Path.{_≡_, refl}
+use mathlib.Core.Path.{_≡_}
 use mathlib.Core.List.{List}
 use Prim.Native.Nat.{ℕ, suc, _+_, _-_, _≤_, _<_}
 use native.Mathlib.Omega.{arith}
-use lib.Dec.{eqb}
 use borrow.Author.Tests.{eq-eqb, ne-eqb}
 use Rattle.ledger.specs.Words.{ticketAt, ticketsFrom}
 use Rattle.ledger.specs.Places.{heldTicket, notHeld, firstOf}

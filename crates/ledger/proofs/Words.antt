@@ -3,17 +3,16 @@
 use mathlib.Core.Path.{_≡_, refl, sym, ap, _∙_}
 use mathlib.Core.Bool.{Bool, true, false}
 use mathlib.Core.List.{List, [], _∷_, _++_}
-use Prim.Native.Nat.{ℕ, zero, suc, _+_, _-_, _*_, _/_, _%_, _^_, _≤_, _<_, min}
+use Prim.Native.Nat.{ℕ, zero, suc, _+_, _-_, _*_, _/_, _%_, _^_, _≤_, _<_}
 use native.Mathlib.Nat.{add-zero, zero-add, pow-suc}
 use native.Mathlib.Numerals.{add-one}
 use native.Mathlib.Omega.{arith}
 use lib.Arith.{digits-div, digits-mod}
-use lib.ListN.{length, getD, set, drop, length-set, drop-of-length-le}
+use lib.ListN.{length, getD, length-set, drop-of-length-le}
 use lib.Seq.{drop-cons, getD-set-same, getD-set-other}
 use lib.Dec.{eqb}
 use Rattle.record.specs.Fields.{Bytes}
 use Rattle.record.specs.TicketRecords.{InRange, tgtOf, evidenceOf}
-use Rattle.record.specs.declared.window.Window.{Window}
 use Rattle.record.specs.declared.ticket.Origin.{Origin}
 use Rattle.record.specs.declared.ticket.Origin.the-variants.{Initial, Direct, SelfIssued, Delegated}
 use Rattle.record.specs.declared.ticket.Ticket.{Ticket}
