@@ -1,18 +1,27 @@
--- What the ledger holds at a number. Document 01, "Decisions": "the first ledger ticket of its number".
+-- What is held: the ticket at a place of the ledger, and the first ticket of a number. Document 01, "Decisions".
 -- Assumes nothing.
 use Prim.Native.Nat.{ℕ}
-use mathlib.Core.Bool.{Bool, true, false, cond}
+use mathlib.Core.Bool.{true, false, cond}
 use mathlib.Core.List.{List, [], _∷_}
-use lib.Dec.{eqb}
+use lib.Dec.{ltb, eqb}
 use Rattle.record.specs.TicketRecords.{blankTicket}
 use Rattle.record.specs.declared.ticket.Ticket.{Ticket}
 use Rattle.rules.specs.declared.decision.Held.{Held}
+use Rattle.ledger.specs.Words.{ticketAt, countOf}
 
--- nothing found
-abbrev pub notFound : Held
-notFound = record { found = false; ticket = blankTicket }
+-- a ticket that is held
+abbrev pub heldTicket : Ticket → Held
+heldTicket t = record { found = true; ticket = t }
 
--- the first ticket of the number n, or nothing
+-- nothing is held; a blank ticket stands beside that
+abbrev pub notHeld : Held
+notHeld = record { found = false; ticket = blankTicket }
+
+-- the ticket at place i of those held, nothing past them
+unfoldable pub heldAt : List ℕ → ℕ → Held
+heldAt w i = cond (ltb i (countOf w)) (heldTicket (ticketAt w i)) notHeld
+
+-- the first ticket of the number n, nothing where there is none
 unfoldable pub firstOf : List Ticket → ℕ → Held
-firstOf [] n = notFound
-firstOf (t ∷ ts) n = cond (eqb (t .number) n) (record { found = true; ticket = t }) (firstOf ts n)
+firstOf [] n = notHeld
+firstOf (t ∷ ts) n = cond (eqb (t .number) n) (heldTicket t) (firstOf ts n)
