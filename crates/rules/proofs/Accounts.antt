@@ -90,6 +90,10 @@ put-at (v ∷ vs) w i (suc k) h room =
     let e : i + suc k ≡ i + 1 + k = omega arith in
     rw e (put-at vs (set w i v) (i + 1) k (omega arith) (rw (length-set w i v) (omega arith)))
 
+pub store-length : (w : List ℕ) (n : ℕ) (x : Row) → length (storeRow w n x) ≡ length w
+unfolding storeRow
+store-length w n x = put-length (rowWords x) w (6 * n)
+
 -- a word of n bytes is below 256 to the n
 pub pack-fits : (s : List ℕ) → Bytes s → (i n : ℕ) → packAt s i n < 256 ^ n
 unfolding packAt
