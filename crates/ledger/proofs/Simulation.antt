@@ -95,7 +95,7 @@ request-agrees : (s s' : Service) (b : Book) (bytes : List ℕ) (clock : ℕ) (o
 request-agrees s s' b bytes clock o r g f h =
     let d : Decision = answerRequest b bytes clock (length o) in
     let same : decideRequest (tableOf (s .accounts)) (ticketsOf (s .ledger)) bytes clock (length o) ≡ d =
-        ap₂ (λ (a : Table) (l : List Ticket). decideRequest a l bytes clock (length o)) (g .same-table) (g .same-tickets)
+    ap₂ (λ (a : Table) (l : List Ticket). decideRequest a l bytes clock (length o)) (g .same-table) (g .same-tickets)
     in
     let q : r .answer ≡ d .answer = ap (λ (x : Decision). x .answer) (h .decided ∙ same) in
     let t : r .ticket ≡ d .ticket = ap (λ (x : Decision). x .ticket) (h .decided ∙ same) in (

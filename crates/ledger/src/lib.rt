@@ -1,6 +1,12 @@
 // Layer 3, the ledger: the tickets held, in words that the caller lends (document 01, "Decisions" and "Error numbers").
 // This file holds the ledger's words; their offsets are seen nowhere else. The first word is the count. Each of 512 places has four words:
 // number, client, service and flags; start and end; the origin's tag, barred mark, hops and back numbers; the trail, its first byte lowest.
+mod call;
+
+pub use call::demand_3;
+pub use call::edit;
+pub use call::fresh;
+pub use call::request;
 use record::Origin;
 use record::Ticket;
 use record::Window;

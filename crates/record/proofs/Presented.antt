@@ -74,9 +74,10 @@ along-writable s m (Decide k) b h = by (wholeRequest s m) refl h
         → Writable (pickRequest p (record { answer = Accepted; request = requestAs s m k }) refusedRequest .request .tgt)
         × Writable (pickRequest p (record { answer = Accepted; request = requestAs s m k }) refusedRequest .request .evidence)
     by true e q =
-        let t = and-right (eqb (length s) (offsetOf requestLayout s m 8)) (hasTicket (embeddedOf s m 4) && hasTicket (embeddedOf s m 5)) e in
-        (embedded-writable s m 4 b (and-left (hasTicket (embeddedOf s m 4)) (hasTicket (embeddedOf s m 5)) t),
-        embedded-writable s m 5 b (and-right (hasTicket (embeddedOf s m 4)) (hasTicket (embeddedOf s m 5)) t))
+        let t = and-right (eqb (length s) (offsetOf requestLayout s m 8)) (hasTicket (embeddedOf s m 4) && hasTicket (embeddedOf s m 5)) e in (
+          embedded-writable s m 4 b (and-left (hasTicket (embeddedOf s m 4)) (hasTicket (embeddedOf s m 5)) t),
+          embedded-writable s m 5 b (and-right (hasTicket (embeddedOf s m 4)) (hasTicket (embeddedOf s m 5)) t),
+        )
     by false e q = absurd (false≢true q)
 
 pub request-writable : (s : List ℕ) → Bytes s → isAccepted (readRequest s .answer) ≡ true

@@ -1,0 +1,135 @@
+// The calls: an edit, a request, and the descent (document 01, "Decisions", "The plain book" and "Lawful descent").
+use crate::LedgerWords;
+use crate::count_held;
+use crate::find_ticket;
+use crate::fresh_ledger;
+use crate::store_ticket;
+use record::Answer;
+use record::Origin;
+use record::Request;
+use record::RequestReading;
+use record::Ticket;
+use record::Written;
+use record::blank_ticket;
+use record::read_request;
+use record::write_ticket;
+use rules::AccountWords;
+use rules::Decision;
+use rules::Held;
+use rules::Moment;
+use rules::decide;
+use rules::edit_account;
+use rules::fresh_accounts;
+ghost use mathlib.Core.Path.{_≡_};
+ghost use mathlib.Core.List.{List, []};
+ghost use Prim.Native.Nat.{ℕ};
+ghost use lib.ListN.{length, replicate};
+ghost use Rattle.record.specs.TicketRecords.{blankTicket};
+ghost use Rattle.record.specs.Requests.{isAccepted};
+ghost use Rattle.rules.specs.Accounts.{tableOf};
+ghost use Rattle.rules.specs.Edits.{editOf};
+ghost use Rattle.rules.specs.Decisions.{refusal};
+ghost use Rattle.ledger.specs.Words.{ticketsOf, noTickets};
+ghost use Rattle.ledger.specs.Book.{decideRequest};
+ghost use Rattle.ledger.specs.History.{Edited, Requested};
+ghost use Rattle.ledger.specs.Demand.{Demand3};
+
+// A fresh service, without accounts or tickets.
+pub fn fresh(accounts: &mut AccountWords, ledger: &mut LedgerWords)
+    ensures accounts { λ _. ⌜ now (accounts .exit) ≡ replicate 384 0 ⌝ }
+    ensures ledger { λ _. ⌜ now (ledger .exit) ≡ noTickets ⌝ }
+{
+    fresh_accounts(accounts);
+    fresh_ledger(ledger);
+}
+
+// Sets one account whole, or refuses; whatever the ledger holds, it stays.
+pub fn edit(
+    accounts: &mut AccountWords,
+    number: u32,
+    name: &[u8],
+    flags: u32,
+    send: u64,
+    receive: u64,
+    lifetime: u32,
+) -> Answer
+    ensures { λ r. ⌜ ((l : List ℕ) → Edited (record { accounts = now (accounts .entry); ledger = l }) (editOf number (now (name .entry)) flags send receive lifetime) (record { answer = r; ticket = blankTicket; output = [] }) (record { accounts = now (accounts .exit); ledger = l })) ⌝ }
+{
+    edit_account(accounts, number, name, flags, send, receive, lifetime)
+}
+
+// Whether an answer is no refusal.
+fn accepts(answer: Answer) -> bool
+    ensures { λ r. ⌜ r ≡ isAccepted answer ⌝ }
+{
+    match answer {
+        Answer::Accepted => true,
+        Answer::Refused(_) => false,
+    }
+}
+
+// A refusal, with a blank ticket.
+fn refuse(answer: Answer) -> Decision
+    ensures { λ r. ⌜ r ≡ refusal answer ⌝ }
+{
+    Decision {
+        answer,
+        ticket: blank_ticket(),
+    }
+}
+
+// What a request is answered: read once, its tickets looked up, and decided.
+fn decide_request(
+    accounts: &AccountWords,
+    ledger: &LedgerWords,
+    bytes: &[u8],
+    clock: u32,
+    room: usize,
+) -> Decision
+    ensures { λ r. ⌜ r ≡ decideRequest (tableOf (now (accounts .entry))) (ticketsOf (now (ledger .entry))) (now (bytes .entry)) clock room ⌝ }
+{
+    let reading = read_request(bytes);
+    let answer = reading.answer;
+    if !accepts(answer) {
+        return refuse(answer);
+    }
+    let q = reading.request;
+    let tgt = q.tgt;
+    let evidence = q.evidence;
+    let held = find_ticket(ledger, tgt.number);
+    let shown = find_ticket(ledger, evidence.number);
+    let count = count_held(ledger);
+    decide(
+        accounts,
+        bytes,
+        q,
+        held,
+        shown,
+        Moment { clock, count, room },
+    )
+}
+
+// Answers a request. A grant stores its ticket and writes its record to the output's start; a refusal changes nothing.
+pub fn request(
+    accounts: &AccountWords,
+    ledger: &mut LedgerWords,
+    bytes: &[u8],
+    clock: u32,
+    output: &mut [u8],
+) -> Decision
+    ensures { λ r. ⌜ Requested (record { accounts = now (accounts .entry); ledger = now (ledger .entry) }) (now (bytes .entry)) clock (now (output .entry)) (record { answer = r .answer; ticket = r .ticket; output = now (output .exit) }) (record { accounts = now (accounts .entry); ledger = now (ledger .exit) }) ⌝ }
+{
+    let decision = decide_request(accounts, ledger, bytes, clock, output.len());
+    let answer = decision.answer;
+    let ticket = decision.ticket;
+    if accepts(answer) {
+        store_ticket(ledger, ticket);
+        write_ticket(ticket, output);
+    }
+    decision
+}
+
+// Demand 3 holds of every list of calls that keep these promises.
+pub fn demand_3()
+    ensures { λ _. ⌜ Demand3 ⌝ }
+{}
