@@ -5,6 +5,7 @@ use crate::find_ticket;
 use crate::fresh_ledger;
 use crate::store_ticket;
 use record::Answer;
+use record::Error;
 use record::Origin;
 use record::Request;
 use record::RequestReading;
@@ -22,7 +23,7 @@ use rules::edit_account;
 use rules::fresh_accounts;
 ghost use mathlib.Core.Path.{_≡_};
 ghost use mathlib.Core.List.{List, []};
-ghost use Prim.Native.Nat.{ℕ};
+ghost use Prim.Native.Nat.{ℕ, _≤_};
 ghost use lib.ListN.{length, replicate};
 ghost use Rattle.record.specs.TicketRecords.{blankTicket};
 ghost use Rattle.record.specs.Requests.{isAccepted};
@@ -31,6 +32,8 @@ ghost use Rattle.rules.specs.Edits.{editOf};
 ghost use Rattle.rules.specs.Decisions.{refusal};
 ghost use Rattle.ledger.specs.Words.{ticketsOf, noTickets};
 ghost use Rattle.ledger.specs.Book.{decideRequest};
+ghost use Rattle.ledger.specs.Descent.{backOf, descent};
+ghost use Rattle.ledger.specs.Calls.{backTo, stepsIn, oneMore, descended};
 ghost use Rattle.ledger.specs.History.{Edited, Requested};
 ghost use Rattle.ledger.specs.Demand.{Demand3};
 
@@ -133,3 +136,71 @@ pub fn request(
 pub fn demand_3()
     ensures { λ _. ⌜ Demand3 ⌝ }
 {}
+
+// What the descent call answers: the steps to the initial ticket, or 41.
+pub enum Descended {
+    Steps(u32),
+    Refused(Error),
+}
+
+// Where a ticket's back number leads.
+enum Back {
+    Stop,
+    To(u16),
+}
+
+// Back from a delegated ticket goes to its evidence, from direct or self to its TGT.
+fn back_of(origin: Origin) -> Back
+    ensures { λ r. ⌜ r ≡ backTo (backOf origin) ⌝ }
+{
+    match origin {
+        Origin::Initial => Back::Stop,
+        Origin::Direct(tgt) => Back::To(tgt),
+        Origin::SelfIssued(tgt) => Back::To(tgt),
+        Origin::Delegated(_, evidence) => Back::To(evidence),
+    }
+}
+
+// One step more.
+fn one_more(d: Descended) -> Descended
+    requires { ⌜ stepsIn d ≤ 65535 ⌝ }
+    ensures { λ r. ⌜ r ≡ oneMore d ⌝ }
+{
+    match d {
+        Descended::Steps(n) => Descended::Steps(n + 1),
+        Descended::Refused(e) => Descended::Refused(e),
+    }
+}
+
+// The steps from a ticket to the initial one. Each step's number falls.
+fn steps_from(words: &LedgerWords, number: u16) -> Descended
+    ensures exact { λ r. ⌜ r ≡ descended (descent (ticketsOf (now (words .entry))) number) ⌝ }
+    ensures bounded { λ r. ⌜ stepsIn r ≤ number ⌝ }
+{
+    let held = find_ticket(words, number);
+    if !held.found {
+        return Descended::Refused(Error::KRB_AP_ERR_MODIFIED);
+    }
+    let ticket = held.ticket;
+    let origin = ticket.origin;
+    let back = back_of(origin);
+    let Back::To(next) = back else {
+        return Descended::Steps(0);
+    };
+    if next < number {
+        one_more(steps_from(words, next))
+    } else {
+        Descended::Refused(Error::KRB_AP_ERR_MODIFIED)
+    }
+}
+
+// The descent call: the steps from the ticket of a number to its initial ticket, or 41.
+pub fn descent(words: &LedgerWords, number: u32) -> Descended
+    ensures { λ r. ⌜ r ≡ descended (descent (ticketsOf (now (words .entry))) number) ⌝ }
+{
+    if number < 65536 {
+        steps_from(words, number as u16)
+    } else {
+        Descended::Refused(Error::KRB_AP_ERR_MODIFIED)
+    }
+}

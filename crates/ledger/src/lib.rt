@@ -3,7 +3,9 @@
 // number, client, service and flags; start and end; the origin's tag, barred mark, hops and back numbers; the trail, its first byte lowest.
 mod call;
 
+pub use call::Descended;
 pub use call::demand_3;
+pub use call::descent;
 pub use call::edit;
 pub use call::fresh;
 pub use call::request;
