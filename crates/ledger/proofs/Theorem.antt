@@ -54,7 +54,7 @@ good-next b (request s clock o) f h =
     good-noted b s clock (length o) (f .0) h (answerRequest b s clock (length o) .answer) (answerRequest b s clock (length o) .ticket) refl
 
 -- each call's arguments fit
-abbrev AllFit : List Call → Type 0
+abbrev pub AllFit : List Call → Type 0
 AllFit [] = Unit {0}
 AllFit (c ∷ cs) = CallFits c × AllFit cs
 

@@ -35,5 +35,5 @@ returns c =
 pub day-total-spec : {M : Type 1} → statement M
 day-total-spec =
     tie.close
-    (tie.spec Inv-loop μ-loop (λ c κs. search needs) loop-holds (λ c κs. search needs) (λ c. search needs)
-    (λ c. search needs) (λ c. search needs) loop-again returns)
+    (tie.spec Inv-loop μ-loop (λ c κs. search needs) loop-holds (λ c κs. search needs) (λ c. search needs) (λ c.
+    search needs) (λ c. search needs) loop-again returns)

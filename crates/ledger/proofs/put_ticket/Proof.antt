@@ -15,5 +15,5 @@ returns c =
 pub put-ticket-spec : {M : Type 1} → statement M
 put-ticket-spec =
     tie.close
-    (tie.spec (λ c κs. search needs) (λ c κs. search needs) (λ c κs. search needs) (λ c κs. search needs)
-    (λ c. search needs) (λ c. search needs) (λ c κs. search needs) returns)
+    (tie.spec (λ c κs. search needs) (λ c κs. search needs) (λ c κs. search needs) (λ c κs. search needs) (λ c. search
+    needs) (λ c. search needs) (λ c κs. search needs) returns)

@@ -10,6 +10,6 @@ returns c = simp (c .pre)
 pub with-origin-spec : {M : Type 1} → statement M
 with-origin-spec =
     tie.close
-    (tie.spec (λ c. search needs) (λ c. search needs) (λ c. search needs) (λ c. search needs) (λ c. search needs)
-    (λ c. search needs) (λ c. search needs) (λ c. search needs) (λ c. search needs) (λ c. search needs)
-    (λ c. search needs) (λ c. search needs) (λ c. search needs) (λ c. search needs) (λ c. search needs) returns)
+    (tie.spec (λ c. search needs) (λ c. search needs) (λ c. search needs) (λ c. search needs) (λ c. search needs) (λ
+    c. search needs) (λ c. search needs) (λ c. search needs) (λ c. search needs) (λ c. search needs) (λ c. search
+    needs) (λ c. search needs) (λ c. search needs) (λ c. search needs) (λ c. search needs) returns)

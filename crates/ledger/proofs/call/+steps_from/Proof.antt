@@ -162,7 +162,7 @@ steps-from-returns-3 t c =
     let n = c .before .before .before .before .back .given .0 .0 in
     let g = back-to (backOf (h .result .ticket .origin)) n (sym (c .before .before .before .before .back .given .1) ∙ c .before .before .before .before .before .before .back-of .ensures) in (
       c .one-more .ensures ∙ ap oneMore (c .before .steps-from .ensures .0) ∙ more-one (descent l n)
-      ∙ sym (ap descended (steps-on l (a .number) (h .result .ticket) n f g (c .before .before .if2 .taken))),
+          ∙ sym (ap descended (steps-on l (a .number) (h .result .ticket) n f g (c .before .before .if2 .taken))),
       rw (c .one-more .ensures) (omega (arith, one-more-most (c .before .steps-from .result), c .before .steps-from .ensures .1, c .before .before .if2 .taken)),
     )
 

@@ -8,28 +8,7 @@ use Rattle.ledger.proofs.Calls.{request-unreadable, request-decided}
 use borrow.Author.Needs.{needs}
 use Rattle.ledger.proofs.call.decide_request.Statement.{statement}
 use Rattle.ledger.proofs.call.decide_request.Tie as tie
-use Rattle.ledger.proofs.call.decide_request.Reads as reads
-use Rattle.ledger.proofs.call.decide_request.Lts as lts
-use Rattle.ledger.proofs.call.accepts.Reads as accepts-reads
-use Rattle.ledger.proofs.call.refuse.Reads as refuse-reads
-use Rattle.ledger.proofs.count_held.Reads as count-held-reads
-use Rattle.ledger.proofs.find_ticket.Reads as find-ticket-reads
-use Rattle.record.proofs.read_request.Reads as read-request-reads
-use Rattle.rules.proofs.decide.Reads as decide-reads
 
--- src/call.rt:91:9
-read-request-requires : tie.Need-read-request-requires
-read-request-requires c κs = search needs
-
--- src/call.rt:93:9
-accepts-requires : tie.Need-accepts-requires
-accepts-requires c κs = search needs
-
--- src/call.rt:94:9
-refuse-requires : tie.Need-refuse-requires
-refuse-requires c κs = search needs
-
--- src/call.rt:94:9
 returns : tie.Need-returns
 returns c =
     let a = c .before .before .before .before .before .args in
@@ -38,23 +17,6 @@ returns c =
     ∙ request-unreadable (tableOf (now (a .accounts))) (ticketsOf (now (a .ledger))) (now (a .bytes)) (a .clock) (a .room) (r .result) (r .ensures)
     (sym (c .before .before .accepts .ensures) ∙ not-true (c .before .before .accepts .result) (c .before .if1 .taken))
 
--- src/call.rt:99:9
-find-ticket-requires : tie.Need-find-ticket-requires
-find-ticket-requires c κs = search needs
-
--- src/call.rt:100:9
-find-ticket-requires-2 : tie.Need-find-ticket-requires-2
-find-ticket-requires-2 c κs = search needs
-
--- src/call.rt:101:9
-count-held-requires : tie.Need-count-held-requires
-count-held-requires c κs = search needs
-
--- src/call.rt:102:5
-decide-requires : tie.Need-decide-requires
-decide-requires c κs = search needs
-
--- src/call.rt:82:1
 returns-2 : tie.Need-returns-2
 returns-2 c =
     let a = c .before .before .before .before .before .before .before .before .before .before .before .args in
@@ -67,13 +29,5 @@ returns-2 c =
 pub decide-request-spec : {M : Type 1} → statement M
 decide-request-spec =
     tie.close
-    (tie.spec
-    read-request-requires
-    accepts-requires
-    refuse-requires
-    returns
-    find-ticket-requires
-    find-ticket-requires-2
-    count-held-requires
-    decide-requires
-    returns-2)
+    (tie.spec (λ c κs. search needs) (λ c κs. search needs) (λ c κs. search needs) returns (λ c κs. search needs)
+    (λ c κs. search needs) (λ c κs. search needs) (λ c κs. search needs) returns-2)
