@@ -78,6 +78,13 @@ module _ (a : Table) (l : List Ticket) (s : List ℕ) (clock room : ℕ) where
   grant-place t (of-self e g) = g .granted .place
   grant-place t (of-proxy e g) = g .granted .place
 
+  -- a grant's record fits the output
+  pub grant-room : (t : Ticket) → GrantOf t → 31 ≤ room
+  grant-room t (of-initial e g) = g .granted .room
+  grant-room t (of-direct e g) = g .granted .room
+  grant-room t (of-self e g) = g .granted .room
+  grant-room t (of-proxy e g) = g .granted .room
+
   -- the number is the count of tickets before it
   pub grant-number : (t : Ticket) → GrantOf t → t .number ≡ length l
   unfolding initialTicket directTicket selfTicket proxyTicket

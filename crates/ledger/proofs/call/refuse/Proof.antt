@@ -11,7 +11,7 @@ blank-ticket-requires c κs = search needs
 
 -- src/call.rt:72:1
 returns : tie.Need-returns
-returns c = ?
+returns c = rw (c .blank-ticket .ensures)
 
 pub refuse-spec : {M : Type 1} → statement M
 refuse-spec = tie.close (tie.spec blank-ticket-requires returns)

@@ -1,3 +1,6 @@
+use mathlib.Core.Path.{_≡_, sym, _∙_}
+use denote.Ref.{now}
+use Rattle.ledger.proofs.Calls.{requested-refused, requested-granted}
 use borrow.Author.Needs.{needs}
 use Rattle.ledger.proofs.call.request.Statement.{statement}
 use Rattle.ledger.proofs.call.request.Tie as tie
@@ -30,11 +33,20 @@ same-length c = search needs
 
 -- src/call.rt:113:1
 returns : tie.Need-returns
-returns c = ?
+returns c =
+    let a = c .before .before .before .before .before .before .before .before .before .before .before .before .before .args in
+    let d = c .before .before .before .before .before .before .before .before .before .decide-request in
+    requested-granted (now (a .accounts)) (now (a .ledger)) (now (a .bytes)) (a .clock) (now (a .output)) (d .result) (d .ensures)
+    (λ k. c .before .before .before .before .before .before .before .before .before .before .before .before .shared-slice-known .given k) (c .before .before .before .before .before .before .before .before .before .before .before .before .before .fits .clock) (sym (c .before .before .before .before .before .before .before .accepts .ensures) ∙ c .before .before .before .before .before .before .if1 .taken)
+    (c .before .before .before .before .store-ticket .last .0) (c .before .before .write-ticket .last .1 .0) (c .before .before .before .before .store-ticket .ensures .1) (c .before .before .write-ticket .ensures .1)
 
 -- src/call.rt:113:1
 returns-2 : tie.Need-returns-2
-returns-2 c = ?
+returns-2 c =
+    let a = c .before .before .before .before .before .before .before .args in
+    let d = c .before .before .before .decide-request in
+    requested-refused (now (a .accounts)) (now (a .ledger)) (now (a .bytes)) (a .clock) (now (a .output)) (d .result) (d .ensures)
+    (sym (c .before .accepts .ensures) ∙ c .if1 .left)
 
 pub request-spec : {M : Type 1} → statement M
 request-spec =
