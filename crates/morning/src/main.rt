@@ -67,6 +67,11 @@ fn first(bytes: &[u8], count: usize) -> &[u8] {
     }
 }
 
+// What was put into a space, up to a position.
+fn put_before(space: &[u8; 128], end: usize) -> &[u8] {
+    first(space, end)
+}
+
 // Puts a byte, and answers the position past it, as do all the functions below.
 fn put(space: &mut [u8; 128], at: usize, byte: u8) -> usize {
     if at < 128 {
@@ -134,6 +139,11 @@ fn record_length(ticket: Ticket) -> usize {
     }
 }
 
+// The record of this length at an output's start.
+fn record_in(output: &[u8; 31], length: usize) -> &[u8] {
+    first(output, length)
+}
+
 // The length of the record that a request was answered, 0 where it was refused.
 fn answered_length(decision: Decision) -> usize {
     let answer = decision.answer;
@@ -177,7 +187,7 @@ fn ask_self(
 ) -> usize {
     let mut space = [0u8; 128];
     let end = put_self(&mut space, tgt, b"tech");
-    ask(accounts, tickets, 3, first(&space, end), 1010, output)
+    ask(accounts, tickets, 3, put_before(&space, end), 1010, output)
 }
 
 // W3 and W4: `web` asks for a ticket of that user to `store`.
@@ -191,13 +201,20 @@ fn ask_proxy(
     let mut space = [0u8; 128];
     let end = put_proxy(&mut space, tgt, evidence, b"store");
     let mut output = [0u8; 31];
-    ask(accounts, tickets, 4, first(&space, end), clock, &mut output);
+    ask(
+        accounts,
+        tickets,
+        4,
+        put_before(&space, end),
+        clock,
+        &mut output,
+    );
 }
 
 fn ask_with_tgt(accounts: &AccountWords, tickets: &mut LedgerWords, tgt: &[u8]) {
     let mut output = [0u8; 31];
     let length = ask_self(accounts, tickets, tgt, &mut output);
-    let evidence = first(&output, length);
+    let evidence = record_in(&output, length);
     ask_proxy(accounts, tickets, tgt, evidence, 1020);
     ask_proxy(accounts, tickets, tgt, evidence, 37000);
 }
@@ -205,7 +222,7 @@ fn ask_with_tgt(accounts: &AccountWords, tickets: &mut LedgerWords, tgt: &[u8]) 
 fn ask_all(accounts: &AccountWords, tickets: &mut LedgerWords) {
     let mut output = [0u8; 31];
     let length = ask_initial(accounts, tickets, &mut output);
-    ask_with_tgt(accounts, tickets, first(&output, length));
+    ask_with_tgt(accounts, tickets, record_in(&output, length));
 }
 
 fn set_accounts(accounts: &mut AccountWords) {
