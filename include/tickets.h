@@ -1,7 +1,7 @@
 /* The ticket service's C interface. C11; link with libtickets.a (x86-64 Linux).
  *
- * Every function takes any bytes: it never reads or writes outside what it is given, and it always ends. A pointer must be valid for
- * its whole length and must not be NULL, not even where the length is 0. What a call writes must not overlap what it reads. The
+ * Every function takes any bytes and any words: it never reads or writes outside what it is given, and it always ends. A pointer must be
+ * valid for its whole length and must not be NULL, not even where the length is 0. What a call writes must not overlap what it reads. The
  * functions keep no state of their own, so calls on separate memory may run at the same time. */
 #ifndef TICKETS_H
 #define TICKETS_H
@@ -41,6 +41,101 @@ typedef struct {
     uint32_t error;
     uint32_t value;
 } tickets_answer;
+
+/* ---- The service (document 01, "Accounts", "Decisions", "The plain book" and "Error numbers").
+ *
+ * The caller lends the service's memory, two arrays of words, to each call. A service begins with tickets_fresh; after that only the
+ * functions below write to it, one at a time. Its words may be copied, stored and brought back as they are; they have no pointers. Any
+ * other words are safe too: they stand for some accounts and some tickets. */
+
+/* How many words the accounts have, and how many the ledger has. */
+#define TICKETS_ACCOUNTS 384
+#define TICKETS_LEDGER 2049
+
+/* The memory of one service, 19464 bytes. */
+typedef struct {
+    uint64_t accounts[TICKETS_ACCOUNTS];
+    uint64_t ledger[TICKETS_LEDGER];
+} tickets_service;
+
+/* The flags of an account. */
+enum {
+    TICKETS_FLAG_DISABLED = 1,
+    TICKETS_FLAG_BARRED = 2,   /* DelegationNotAllowed */
+    TICKETS_FLAG_TRUSTED = 4,  /* TrustedToAuthenticationForDelegation */
+    TICKETS_FLAG_SERVICE = 8
+};
+
+/* Makes a fresh service, without accounts or tickets. All words are set, whatever they held. */
+void tickets_fresh(uint64_t *accounts, uint64_t *ledger);
+
+/* Sets account `number`, 0 to 63, whole. The name is the `name_len` bytes at `name`, with no zero byte at its end: 1 to 24 bytes, each 0x21
+ * to 0x7E without 0x40. `flags` are those above, together. `send` and `receive` are sets of accounts, bit n for account n: the services
+ * that the account may send forwarded tickets to, and those that it receives them from; they may name accounts not set yet. `lifetime` is
+ * in seconds. The ledger is not touched.
+ *
+ *   0    the account is set. The first edit of a number fixes its name.
+ *   60   (TICKETS_KRB_ERR_GENERIC) the number is above 63, the name is not such a name, or the flags are above 15.
+ *   12   (TICKETS_KDC_ERR_POLICY) the account is set and has another name, if only in the case of a letter.
+ *   8    (TICKETS_KDC_ERR_PRINCIPAL_NOT_UNIQUE) another account's name matches, with ASCII letter case ignored.
+ *
+ * The first of these checks that fails answers, and the accounts are then as before. */
+uint32_t tickets_edit(uint64_t *accounts, uint32_t number, const uint8_t *name, size_t name_len, uint32_t flags, uint64_t send,
+                      uint64_t receive, uint32_t lifetime);
+
+/* Answers the request of `request_len` bytes at `request`, at the clock reading `clock`, in seconds. The accounts are read only. For an
+ * initial ticket (kind 1) the caller has checked the user's password before.
+ *
+ * error 0: granted. `value` is the length of the new ticket's record, 17 to 31; the record stands at the start of `output`, the output's
+ * further bytes are as before, and the ticket is the ledger's last. `output_len` has to be TICKETS_LONGEST_RECORD at least, whatever
+ * the ticket.
+ *
+ * Any other error: refused. `value` is 0, and the ledger and the output are as before. The first check that fails answers, in this order:
+ *
+ *   60                  the request is unreadable (see tickets_read_request)
+ *   52                  `output_len` is under TICKETS_LONGEST_RECORD
+ *   41, 35, 33, 32, 18  the TGT: not held, or not as it is held; not an initial ticket; not yet valid; expired; its client is disabled
+ *   41, 33, 32, 26, 18  the evidence: not held, or not as it is held; not yet valid; expired; its service is not the TGT's client, or it
+ *                       has none; its client is disabled
+ *   7                   the service that is named is unknown, disabled or without TICKETS_FLAG_SERVICE; for kind 3, which names none, the
+ *                       TGT's client is without that flag
+ *   6, 18               the user that is named is unknown; the user is disabled
+ *   13                  kind 4: neither route is open, or the option CNAME-IN-ADDL-TKT is missing
+ *   61                  kind 4: the evidence's trail has eight accounts already
+ *   11                  the ticket would end no later than `clock`
+ *   29                  the ledger holds 512 tickets */
+tickets_answer tickets_request(uint64_t *accounts, uint64_t *ledger, const uint8_t *request, size_t request_len, uint32_t clock,
+                               uint8_t *output, size_t output_len);
+
+/* The day total: the seconds from start to end of each ticket in the ledger, added up. A ticket whose end is not later than its start
+ * counts 0. */
+uint64_t tickets_day_total(const uint64_t *ledger);
+
+/* ---- The same over a tickets_service. */
+
+static inline void tickets_service_fresh(tickets_service *service)
+{
+    tickets_fresh(service->accounts, service->ledger);
+}
+
+static inline uint32_t tickets_service_edit(tickets_service *service, uint32_t number, const uint8_t *name, size_t name_len, uint32_t flags,
+                                            uint64_t send, uint64_t receive, uint32_t lifetime)
+{
+    return tickets_edit(service->accounts, number, name, name_len, flags, send, receive, lifetime);
+}
+
+static inline tickets_answer tickets_service_request(tickets_service *service, const uint8_t *request, size_t request_len, uint32_t clock,
+                                                     uint8_t *output, size_t output_len)
+{
+    return tickets_request(service->accounts, service->ledger, request, request_len, clock, output, output_len);
+}
+
+static inline uint64_t tickets_service_day_total(const tickets_service *service)
+{
+    return tickets_day_total(service->ledger);
+}
+
+/* ---- The record layer's readers and writer (document 01, "Ticket records" and "Requests"). */
 
 /* Reads the ticket record of `record_len` bytes at `record`, and writes the ticket's record to the start of `output`.
  *

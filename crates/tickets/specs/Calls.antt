@@ -1,9 +1,11 @@
--- What the exported functions answer, in numbers. Document 01, "Ticket records", "Requests" and "Error numbers".
+-- What the exported functions answer, in numbers. Document 01, "Ticket records", "Requests", "The plain book" and
+-- "Error numbers".
 -- Assumes nothing.
 use Prim.Native.Nat.{ℕ}
 use mathlib.Core.List.{List, [], _∷_}
+use lib.ListN.{length}
 use Rattle.record.specs.Errors.{numberOf}
-use Rattle.record.specs.TicketRecords.{writtenOf, outputOf}
+use Rattle.record.specs.TicketRecords.{writtenOf, outputOf, recordOf}
 use Rattle.record.specs.declared.errors.Error.{Error}
 use Rattle.record.specs.declared.errors.Answer.{Answer}
 use Rattle.record.specs.declared.errors.Answer.the-variants.{Accepted, Refused}
@@ -15,6 +17,8 @@ use Rattle.record.specs.declared.request.Kind.{Kind}
 use Rattle.record.specs.declared.request.Kind.the-variants.{Initial, Direct, S4U2self, S4U2proxy}
 use Rattle.record.specs.declared.request.Request.{Request}
 use Rattle.record.specs.declared.request.RequestReading.{RequestReading}
+use Rattle.rules.specs.declared.decision.Decision.{Decision}
+use Rattle.ledger.specs.Book.{Reply}
 use Rattle.tickets.specs.declared.TicketsAnswer.{TicketsAnswer}
 
 -- a refusal's number, with no value
@@ -65,3 +69,20 @@ fieldsRead (Refused e) q old = old
 -- the ten fields after a request was read
 abbrev pub fieldsAfter : RequestReading → List ℕ → List ℕ
 fieldsAfter r old = fieldsRead (r .answer) (r .request) old
+
+-- ---- A request of the service
+-- a grant: no error, and the length of the ticket's record, which stands at the output's start
+abbrev pub grant : Ticket → TicketsAnswer
+grant t = record { error = 0; value = length (recordOf t) }
+
+-- a grant or a refusal, in numbers
+abbrev pub answerOf : Answer → Ticket → TicketsAnswer
+answerOf Accepted t = grant t
+answerOf (Refused e) t = refusal e
+
+abbrev pub requestAnswer : Decision → TicketsAnswer
+requestAnswer d = answerOf (d .answer) (d .ticket)
+
+-- a decision as the plain book's reply, with the output after the call
+abbrev pub replyWith : Decision → List ℕ → Reply
+replyWith d o = record { answer = d .answer; ticket = d .ticket; output = o }

@@ -1,17 +1,27 @@
-// The C interface: the record layer's readers and writer, exported for tests of the compiled library (include/tickets.h).
-// Only numbers and slices of bytes cross the border. A function takes any bytes and any output.
+// The C interface (include/tickets.h): the calls of the ledger (document 01, "Decisions", "The plain book" and "Error numbers"), and the
+// record layer's readers and writer ("Ticket records" and "Requests"), exported for tests of the compiled library.
+// Only numbers, words and slices of bytes cross the border. A function takes any words, any bytes and any output.
+use ledger::LedgerWords;
 use record::Answer;
 use record::Error;
 use record::Kind;
 use record::Request;
+use record::Ticket;
 use record::Written;
+use rules::AccountWords;
 ghost use mathlib.Core.Path.{_≡_};
 ghost use Prim.Native.Nat.{ℕ, _≤_};
-ghost use lib.ListN.{length};
+ghost use lib.ListN.{length, replicate};
 ghost use Rattle.record.specs.Errors.{numberOf, answerNumber};
-ghost use Rattle.record.specs.TicketRecords.{readTicket};
+ghost use Rattle.record.specs.TicketRecords.{readTicket, Writable};
 ghost use Rattle.record.specs.Requests.{readRequest};
-ghost use Rattle.tickets.specs.Calls.{refusal, writtenAnswer, rewriteAnswer, rewriteOutput, kindNumber, requestFields, fieldsAfter};
+ghost use Rattle.rules.specs.Accounts.{tableOf};
+ghost use Rattle.rules.specs.Edits.{editOf, editAnswer, storedBy};
+ghost use Rattle.ledger.specs.Words.{ticketsOf, noTickets};
+ghost use Rattle.ledger.specs.Totals.{dayTotal};
+ghost use Rattle.ledger.specs.Book.{decideRequest};
+ghost use Rattle.ledger.specs.History.{Requested};
+ghost use Rattle.tickets.specs.Calls.{refusal, writtenAnswer, rewriteAnswer, rewriteOutput, kindNumber, requestFields, fieldsAfter, grant, requestAnswer, replyWith};
 
 // What a call answers: the error number, 0 where there is none, and a value, 0 beside an error.
 #[repr(C)]
@@ -22,7 +32,7 @@ pub struct TicketsAnswer {
 
 // The numbers of a request: kind, options, PAC options, till, the TGT's number, the evidence's number, where the user's name lies and its
 // length, where the service's name lies and its length.
-type RequestFields = [u64; 10];
+pub type RequestFields = [u64; 10];
 
 // The answer of a refusal.
 fn refusal(error: Error) -> TicketsAnswer
@@ -115,4 +125,70 @@ pub extern "C" fn tickets_read_request(bytes: &[u8], fields: &mut RequestFields)
         }
         Answer::Refused(error) => record::error_number(error),
     }
+}
+
+// ---- The service's calls.
+
+// A fresh service, without accounts or tickets.
+#[no_mangle]
+pub extern "C" fn tickets_fresh(accounts: &mut AccountWords, ledger: &mut LedgerWords)
+    ensures accounts { λ _. ⌜ now (accounts .exit) ≡ replicate 384 0 ⌝ }
+    ensures ledger { λ _. ⌜ now (ledger .exit) ≡ noTickets ⌝ }
+{
+    ledger::fresh(accounts, ledger);
+}
+
+// Sets one account whole: 0, or the refusal's number.
+#[no_mangle]
+pub extern "C" fn tickets_edit(
+    accounts: &mut AccountWords,
+    number: u32,
+    name: &[u8],
+    flags: u32,
+    send: u64,
+    receive: u64,
+    lifetime: u32,
+) -> u32
+    ensures answer { λ r. ⌜ r ≡ answerNumber (editAnswer (tableOf (now (accounts .entry))) (editOf number (now (name .entry)) flags send receive lifetime)) ⌝ }
+    ensures accounts { λ _. ⌜ now (accounts .exit) ≡ storedBy (editAnswer (tableOf (now (accounts .entry))) (editOf number (now (name .entry)) flags send receive lifetime)) (now (accounts .entry)) (editOf number (now (name .entry)) flags send receive lifetime) ⌝ }
+{
+    record::answer_number(ledger::edit(accounts, number, name, flags, send, receive, lifetime))
+}
+
+// The answer of a grant: its record's length.
+fn granted(ticket: Ticket) -> TicketsAnswer
+    requires { ⌜ Writable ticket ⌝ }
+    ensures { λ r. ⌜ r ≡ grant ticket ⌝ }
+{
+    let mut space = [0u8; 31];
+    let written = record::write_ticket(ticket, &mut space);
+    written_answer(written)
+}
+
+// Answers a request: the length of the record at the output's start, or the refusal's number.
+#[no_mangle]
+pub extern "C" fn tickets_request(
+    accounts: &AccountWords,
+    ledger: &mut LedgerWords,
+    request: &[u8],
+    clock: u32,
+    output: &mut [u8],
+) -> TicketsAnswer
+    ensures answer { λ r. ⌜ r ≡ requestAnswer (decideRequest (tableOf (now (accounts .entry))) (ticketsOf (now (ledger .entry))) (now (request .entry)) clock (length (now (output .entry)))) ⌝ }
+    ensures promise { λ _. ⌜ Requested (record { accounts = now (accounts .entry); ledger = now (ledger .entry) }) (now (request .entry)) clock (now (output .entry)) (replyWith (decideRequest (tableOf (now (accounts .entry))) (ticketsOf (now (ledger .entry))) (now (request .entry)) clock (length (now (output .entry)))) (now (output .exit))) (record { accounts = now (accounts .entry); ledger = now (ledger .exit) }) ⌝ }
+{
+    let decision = ledger::request(accounts, ledger, request, clock, output);
+    let answer = decision.answer;
+    match answer {
+        Answer::Accepted => granted(decision.ticket),
+        Answer::Refused(error) => refusal(error),
+    }
+}
+
+// The day total, in seconds.
+#[no_mangle]
+pub extern "C" fn tickets_day_total(ledger: &LedgerWords) -> u64
+    ensures { λ r. ⌜ r ≡ dayTotal (ticketsOf (now (ledger .entry))) ⌝ }
+{
+    ledger::day_total(ledger)
 }
