@@ -2,7 +2,7 @@
 # bench: times the compiled library (docs/PERFORMANCE.md).
 CARGO = cargo --quiet
 HARNESS = --offline --release --manifest-path harness/Cargo.toml
-PROGRAM = record_vectors
+PROGRAM = console
 .PHONY: run test bench library
 
 run:

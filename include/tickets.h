@@ -107,6 +107,14 @@ uint32_t tickets_edit(uint64_t *accounts, uint32_t number, const uint8_t *name, 
 tickets_answer tickets_request(uint64_t *accounts, uint64_t *ledger, const uint8_t *request, size_t request_len, uint32_t clock,
                                uint8_t *output, size_t output_len);
 
+/* The descent of ticket `number`: how many steps back it is to its initial ticket, from a delegated ticket to its evidence, from a direct
+ * or self-issued one to its TGT.
+ *
+ *   error 0: `value` is the steps, 0 for an initial ticket.
+ *   41 (TICKETS_KRB_AP_ERR_MODIFIED): the ledger has no ticket of that number, or a back number on the way is not held or does not fall;
+ *   neither happens for a ticket that tickets_request granted. */
+tickets_answer tickets_descent(const uint64_t *ledger, uint32_t number);
+
 /* The day total: the seconds from start to end of each ticket in the ledger, added up. A ticket whose end is not later than its start
  * counts 0. */
 uint64_t tickets_day_total(const uint64_t *ledger);
@@ -128,6 +136,11 @@ static inline tickets_answer tickets_service_request(tickets_service *service, c
                                                      uint8_t *output, size_t output_len)
 {
     return tickets_request(service->accounts, service->ledger, request, request_len, clock, output, output_len);
+}
+
+static inline tickets_answer tickets_service_descent(const tickets_service *service, uint32_t number)
+{
+    return tickets_descent(service->ledger, number);
 }
 
 static inline uint64_t tickets_service_day_total(const tickets_service *service)

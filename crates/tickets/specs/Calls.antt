@@ -19,6 +19,8 @@ use Rattle.record.specs.declared.request.Request.{Request}
 use Rattle.record.specs.declared.request.RequestReading.{RequestReading}
 use Rattle.rules.specs.declared.decision.Decision.{Decision}
 use Rattle.ledger.specs.Book.{Reply}
+use Rattle.ledger.specs.declared.call.Descended.{Descended}
+use Rattle.ledger.specs.declared.call.Descended.the-variants.{Steps, Refused as NoDescent}
 use Rattle.tickets.specs.declared.TicketsAnswer.{TicketsAnswer}
 
 -- a refusal's number, with no value
@@ -86,3 +88,8 @@ requestAnswer d = answerOf (d .answer) (d .ticket)
 -- a decision as the plain book's reply, with the output after the call
 abbrev pub replyWith : Decision → List ℕ → Reply
 replyWith d o = record { answer = d .answer; ticket = d .ticket; output = o }
+
+-- ---- A descent: its steps, or the refusal
+abbrev pub descentAnswer : Descended → TicketsAnswer
+descentAnswer (Steps n) = record { error = 0; value = n }
+descentAnswer (NoDescent e) = refusal e

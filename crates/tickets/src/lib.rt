@@ -1,6 +1,7 @@
 // The C interface (include/tickets.h): the calls of the ledger (document 01, "Decisions", "The plain book" and "Error numbers"), and the
 // record layer's readers and writer ("Ticket records" and "Requests"), exported for tests of the compiled library.
 // Only numbers, words and slices of bytes cross the border. A function takes any words, any bytes and any output.
+use ledger::Descended;
 use ledger::LedgerWords;
 use record::Answer;
 use record::Error;
@@ -20,8 +21,10 @@ ghost use Rattle.rules.specs.Edits.{editOf, editAnswer, storedBy};
 ghost use Rattle.ledger.specs.Words.{ticketsOf, noTickets};
 ghost use Rattle.ledger.specs.Totals.{dayTotal};
 ghost use Rattle.ledger.specs.Book.{decideRequest};
+ghost use Rattle.ledger.specs.Descent.{descent};
+ghost use Rattle.ledger.specs.Calls.{descended};
 ghost use Rattle.ledger.specs.History.{Requested};
-ghost use Rattle.tickets.specs.Calls.{refusal, writtenAnswer, rewriteAnswer, rewriteOutput, kindNumber, requestFields, fieldsAfter, grant, requestAnswer, replyWith};
+ghost use Rattle.tickets.specs.Calls.{refusal, writtenAnswer, rewriteAnswer, rewriteOutput, kindNumber, requestFields, fieldsAfter, grant, requestAnswer, replyWith, descentAnswer};
 
 // What a call answers: the error number, 0 where there is none, and a value, 0 beside an error.
 #[repr(C)]
@@ -182,6 +185,20 @@ pub extern "C" fn tickets_request(
     match answer {
         Answer::Accepted => granted(decision.ticket),
         Answer::Refused(error) => refusal(error),
+    }
+}
+
+// The steps from the ticket of a number to its initial ticket, or 41.
+#[no_mangle]
+pub extern "C" fn tickets_descent(ledger: &LedgerWords, number: u32) -> TicketsAnswer
+    ensures { λ r. ⌜ r ≡ descentAnswer (descended (descent (ticketsOf (now (ledger .entry))) number)) ⌝ }
+{
+    match ledger::descent(ledger, number) {
+        Descended::Steps(steps) => TicketsAnswer {
+            error: 0,
+            value: steps,
+        },
+        Descended::Refused(error) => refusal(error),
     }
 }
 
