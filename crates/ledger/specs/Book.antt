@@ -41,6 +41,7 @@ abbrev pub decideReading : Answer → Table → List Ticket → List ℕ → ℕ
 decideReading Accepted a l s clock room q = decideRead a l s clock room q
 decideReading (Refused e) a l s clock room q = refusal (Refused e)
 
+-- what a request's bytes are answered, at a clock reading and with so many bytes of output
 unfoldable pub decideRequest : Table → List Ticket → List ℕ → ℕ → ℕ → Decision
 decideRequest a l s clock room = decideReading (readRequest s .answer) a l s clock room (readRequest s)
 
@@ -55,16 +56,20 @@ pub record Note : Type 0 where
   pub bytes : List ℕ
   pub table : Table
 
+-- the request that a note's bytes are read as
 abbrev pub requestOf : Note → Request
 requestOf m = readRequest (m .bytes) .request
 
+-- the table as it stands, and a note for each ticket given, in their order
 pub record Book : Type 0 where
   pub table : Table
   pub notes : List Note
 
+-- the ticket of a note
 abbrev pub ticketOf : Note → Ticket
 ticketOf m = m .ticket
 
+-- the book's list of tickets
 abbrev pub tickets : Book → List Ticket
 tickets b = map ticketOf (b .notes)
 
@@ -77,10 +82,11 @@ abbrev pub noted : Book → List ℕ → Answer → Ticket → Book
 noted b s Accepted t = record { table = b .table; notes = b .notes ++ (record { ticket = t; bytes = s; table = b .table } ∷ []) }
 noted b s (Refused e) t = b
 
+-- what the book answers to a request, by its own table and its own list
 abbrev pub answerRequest : Book → List ℕ → ℕ → ℕ → Decision
 answerRequest b s clock room = decideRequest (b .table) (tickets b) s clock room
 
--- the reply to a call, and the book after it
+-- the reply to a call
 abbrev pub reply : Book → Call → Reply
 reply b (edit e) = record { answer = editAnswer (b .table) e; ticket = blankTicket; output = [] }
 reply b (request s clock o) =
@@ -90,15 +96,17 @@ reply b (request s clock o) =
       output = laid (answerRequest b s clock (length o) .answer) (answerRequest b s clock (length o) .ticket) o;
     }
 
+-- the book after a call
 abbrev pub next : Book → Call → Book
 next b (edit e) = record { table = edited (b .table) e; notes = b .notes }
 next b (request s clock o) = noted b s (answerRequest b s clock (length o) .answer) (answerRequest b s clock (length o) .ticket)
 
--- after a list of calls, and the replies to them
+-- the book after a list of calls
 abbrev pub after : Book → List Call → Book
 after b [] = b
 after b (c ∷ cs) = after (next b c) cs
 
+-- the replies to a list of calls
 abbrev pub replies : Book → List Call → List Reply
 replies b [] = []
 replies b (c ∷ cs) = reply b c ∷ replies (next b c) cs

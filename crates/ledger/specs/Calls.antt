@@ -13,6 +13,7 @@ abbrev pub descended : Option ℕ → Descended
 descended none = Refused «KRB_AP_ERR_MODIFIED»
 descended (some k) = Steps k
 
+-- where a back number leads: nowhere from an initial ticket
 abbrev pub backTo : Option ℕ → Back
 backTo none = Stop
 backTo (some n) = To n
@@ -22,6 +23,7 @@ abbrev pub stepsIn : Descended → ℕ
 stepsIn (Steps n) = n
 stepsIn (Refused e) = 0
 
+-- one step more; a refusal stays what it is
 abbrev pub oneMore : Descended → Descended
 oneMore (Steps n) = Steps (n + 1)
 oneMore (Refused e) = Refused e

@@ -17,10 +17,12 @@ abbrev pub returned : Answer → Ticket → List Ticket → List Ticket
 returned Accepted t l = t ∷ l
 returned (Refused e) t l = l
 
+-- an edit returns no ticket; a request returns one where it is granted
 abbrev pub returnedBy : Call → Reply → List Ticket → List Ticket
 returnedBy (edit e) r l = l
 returnedBy (request s clock o) r l = returned (r .answer) (r .ticket) l
 
+-- those of a list of calls with their replies
 abbrev pub granted : List Turn → List Ticket
 granted [] = []
 granted (t ∷ ts) = returnedBy (t .call) (t .reply) (granted ts)
@@ -41,5 +43,6 @@ pub record Upheld (ts : List Turn) (b : Book) (s : Service) : Type 0 where
   pub same-replies : map replyOf ts ≡ replies emptyBook (map callOf ts)
   pub lawful-descent : (t : Ticket) → List·Memᴰ t (ticketsOf (s .ledger)) → Descends (b .notes) t
 
+-- demand 3: so it is for every list of calls with their replies from a fresh service
 abbrev pub Demand3 : Type 0
 Demand3 = (ts : List Turn) (s : Service) → History freshService ts s → Upheld ts (after emptyBook (map callOf ts)) s

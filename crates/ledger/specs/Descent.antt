@@ -21,6 +21,7 @@ abbrev pub standing : ℕ → List Note → Option Note
 standing n [] = none
 standing n (m ∷ ms) = cond (eqb (m .ticket .number) n) (some m) (standing n ms)
 
+-- the same over tickets alone
 abbrev pub find : ℕ → List Ticket → Option Ticket
 find n [] = none
 find n (t ∷ ts) = cond (eqb (t .number) n) (some t) (find n ts)
@@ -29,6 +30,7 @@ find n (t ∷ ts) = cond (eqb (t .number) n) (some t) (find n ts)
 abbrev pub trailList : Ticket → List ℕ
 trailList t = take (t .hops) (t .trail)
 
+-- the service of a note's ticket
 abbrev pub serviceIn : Note → ℕ
 serviceIn m = m .ticket .service
 
@@ -39,6 +41,7 @@ backOf (Direct g) = some g
 backOf (SelfIssued g) = some g
 backOf (Delegated g e) = some e
 
+-- whether a ticket came by a hop
 abbrev pub isDelegated : Origin → Bool
 isDelegated Initial = false
 isDelegated (Direct g) = false
@@ -116,6 +119,7 @@ WayOf ns m (Direct g) = Way ns m
 WayOf ns m (SelfIssued g) = Way ns m
 WayOf ns m (Delegated g e) = Way ns m
 
+-- lawful descent of a note's ticket among the notes ns
 pub record Lawful (ns : List Note) (m : Note) : Type 0 where
   pub steps : ℕ
   pub back : Steps ns m steps
@@ -129,17 +133,21 @@ abbrev pub more : Option ℕ → Option ℕ
 more none = none
 more (some k) = some (suc k)
 
+-- one back number on: it must fall; none is the initial ticket, zero steps back
 abbrev pub backBy : ℕ → (ℕ → Option ℕ) → Option ℕ → Option ℕ
 backBy n go none = some 0
 backBy n go (some g) = cond (ltb g n) (more (go g)) none
 
+-- from the ticket that a number stands for, if there is one
 abbrev pub backFrom : ℕ → (ℕ → Option ℕ) → Option Ticket → Option ℕ
 backFrom n go none = none
 backFrom n go (some t) = backBy n go (backOf (t .origin))
 
+-- the steps from a number, in fewer than k of them: each number falls, so suc n is enough for n
 abbrev pub stepsWithin : ℕ → List Ticket → ℕ → Option ℕ
 stepsWithin zero l n = none
 stepsWithin (suc k) l n = backFrom n (λ g. stepsWithin k l g) (find n l)
 
+-- what the descent call counts for a number
 unfoldable pub descent : List Ticket → ℕ → Option ℕ
 descent l n = stepsWithin (suc n) l n

@@ -47,6 +47,7 @@ pub record Requested (s : Service) (bytes : List ℕ) (clock : ℕ) (o : List �
   pub accounts : s' .accounts ≡ s .accounts
   pub ledger : s' .ledger ≡ withGrant (r .answer) (s .ledger) (r .ticket)
 
+-- the promise of a call
 abbrev pub Promise : Service → Call → Reply → Service → Type 0
 Promise s (edit e) r s' = Edited s e r s'
 Promise s (request bytes clock o) r s' = Requested s bytes clock o r s'
@@ -61,9 +62,11 @@ pub record Turn : Type 0 where
   pub call : Call
   pub reply : Reply
 
+-- the call of a turn
 abbrev pub callOf : Turn → Call
 callOf t = t .call
 
+-- the reply of a turn
 abbrev pub replyOf : Turn → Reply
 replyOf t = t .reply
 
