@@ -13,6 +13,7 @@ use borrow.Author.Tests.{le-leb, lt-ltb}
 use Rattle.record.specs.Fields.{Bytes, pickList}
 use Rattle.record.specs.TicketRecords.{Writable, wellFormed, mapOfTicket, recordOf, outputOf}
 use Rattle.record.specs.Requests.{isAccepted, readRequest}
+use Rattle.record.specs.declared.errors.Error.the-variants.{«KRB_ERR_RESPONSE_TOO_BIG»}
 use Rattle.record.specs.declared.errors.Answer.{Answer}
 use Rattle.record.specs.declared.errors.Answer.the-variants.{Accepted, Refused}
 use Rattle.record.specs.declared.ticket.Ticket.{Ticket}
@@ -23,6 +24,7 @@ use Rattle.rules.specs.declared.decision.Held.{Held}
 use Rattle.rules.specs.declared.decision.Moment.{Moment}
 use Rattle.rules.specs.declared.decision.Decision.{Decision}
 use Rattle.rules.proofs.Accounts.{rows-length}
+use Rattle.rules.proofs.Decisions.{room-short}
 use Rattle.rules.proofs.Grants.{Grants}
 use Rattle.ledger.specs.Words.{countOf, ticketsOf, storeTicket}
 use Rattle.ledger.specs.Places.{firstOf}
@@ -50,6 +52,15 @@ module _ (a : Table) (l : List Ticket) (s : List ℕ) (clock room : ℕ) (q : Re
     where
       by : (r : Answer) → isAccepted r ≡ true → d ≡ decideReading r a l s clock room q
       by Accepted z = ed ∙ rw (eh, ek, ec)
+      by (Refused n) z = absurd (false≢true z)
+
+  -- a readable one whose output is too short is refused whatever the list holds
+  pub request-short : isAccepted (q .answer) ≡ true → room < 31 → refusal (Refused «KRB_ERR_RESPONSE_TOO_BIG») ≡ decideRequest a l s clock room
+  unfolding decideRequest
+  request-short r h = rw (sym e) (by (q .answer) r)
+    where
+      by : (r : Answer) → isAccepted r ≡ true → refusal (Refused «KRB_ERR_RESPONSE_TOO_BIG») ≡ decideReading r a l s clock room q
+      by Accepted z = room-short (q .request .kind) a s (q .request) _ _ _ h
       by (Refused n) z = absurd (false≢true z)
 
 -- the writer's output for a ticket that it accepts

@@ -1,7 +1,7 @@
 -- What is held: the ticket at a place of the ledger, and the first ticket of a number. Document 01, "Decisions".
 -- Assumes nothing.
-use Prim.Native.Nat.{ℕ}
-use mathlib.Core.Bool.{true, false, cond}
+use Prim.Native.Nat.{ℕ, zero, suc, _+_}
+use mathlib.Core.Bool.{Bool, true, false, cond, _||_}
 use mathlib.Core.List.{List, [], _∷_}
 use lib.Dec.{ltb, eqb}
 use Rattle.record.specs.TicketRecords.{blankTicket}
@@ -25,3 +25,12 @@ heldAt w i = cond (ltb i (countOf w)) (heldTicket (ticketAt w i)) notHeld
 unfoldable pub firstOf : List Ticket → ℕ → Held
 firstOf [] n = notHeld
 firstOf (t ∷ ts) n = cond (eqb (t .number) n) (heldTicket t) (firstOf ts n)
+
+-- the ticket at place i has the number
+unfoldable pub hasNumber : List ℕ → ℕ → ℕ → Bool
+hasNumber w number i = eqb (ticketAt w i .number) number
+
+-- one of the tickets at n places from i on has
+unfoldable pub among : List ℕ → ℕ → ℕ → ℕ → Bool
+among w number i zero = false
+among w number i (suc n) = among w number i n || hasNumber w number (i + n)

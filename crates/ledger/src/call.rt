@@ -1,8 +1,10 @@
 // The calls: an edit, a request, and the descent (document 01, "Decisions", "The plain book" and "Lawful descent").
 use crate::LedgerWords;
 use crate::count_held;
+use crate::find_from;
 use crate::find_ticket;
 use crate::fresh_ledger;
+use crate::skip;
 use crate::store_ticket;
 use record::Answer;
 use record::Error;
@@ -81,7 +83,7 @@ fn refuse(answer: Answer) -> Decision
     }
 }
 
-// What a request is answered: read once, its tickets looked up, and decided.
+// What a request is answered: read once, its tickets looked up in one pass, and decided. A short output is refused before that.
 fn decide_request(
     accounts: &AccountWords,
     ledger: &LedgerWords,
@@ -96,12 +98,16 @@ fn decide_request(
     if !accepts(answer) {
         return refuse(answer);
     }
+    if room < 31 {
+        return refuse(Answer::Refused(Error::KRB_ERR_RESPONSE_TOO_BIG));
+    }
     let q = reading.request;
     let tgt = q.tgt;
     let evidence = q.evidence;
-    let held = find_ticket(ledger, tgt.number);
-    let shown = find_ticket(ledger, evidence.number);
     let count = count_held(ledger);
+    let from = skip(ledger, 0, count, tgt.number, evidence.number);
+    let held = find_from(ledger, from, count, tgt.number);
+    let shown = find_from(ledger, from, count, evidence.number);
     decide(
         accounts,
         bytes,

@@ -16,13 +16,14 @@ use record::blank_ticket;
 use rules::Held;
 ghost use mathlib.Core.Path.{_≡_};
 ghost use mathlib.Core.List.{[], _∷_};
-ghost use Prim.Native.Nat.{_+_, _*_, _%_, _<_, _≤_};
+ghost use mathlib.Core.Bool.{_||_};
+ghost use Prim.Native.Nat.{_+_, _-_, _*_, _%_, _<_, _≤_};
 ghost use lib.Dec.{ltb};
 ghost use Rattle.record.specs.Fields.{pickList};
 ghost use Rattle.record.specs.TicketRecords.{tgtOf, evidenceOf};
 ghost use Rattle.rules.specs.Accounts.{packAt, putRow};
-ghost use Rattle.ledger.specs.Words.{originIn, ticketIn, ticketAt, countOf, ticketsOf, tagOf, markOf, ticketWords, storeTicket, noTickets};
-ghost use Rattle.ledger.specs.Places.{heldTicket, notHeld, heldAt, firstOf};
+ghost use Rattle.ledger.specs.Words.{originIn, ticketIn, ticketAt, countOf, ticketsFrom, ticketsOf, tagOf, markOf, ticketWords, storeTicket, noTickets};
+ghost use Rattle.ledger.specs.Places.{heldTicket, notHeld, heldAt, firstOf, hasNumber, among};
 ghost use Rattle.ledger.specs.Totals.{spanOf, dayTotal};
 
 pub const LEDGER: usize = 2049;
@@ -31,7 +32,7 @@ pub const LEDGER: usize = 2049;
 pub type LedgerWords = [u64; LEDGER];
 
 // A ledger without tickets.
-pub fn fresh_ledger(words: &mut LedgerWords)
+fn fresh_ledger(words: &mut LedgerWords)
     ensures { λ _. ⌜ now (words .exit) ≡ noTickets ⌝ }
 {
     *words = [0u64; LEDGER];
@@ -163,12 +164,72 @@ pub fn ticket_at(words: &LedgerWords, i: usize) -> Held
     }
 }
 
-// The first ticket of a number. Of each place before it only the first word is read.
-pub fn find_ticket(words: &LedgerWords, number: u16) -> Held
-    ensures { λ r. ⌜ r ≡ firstOf (ticketsOf (now (words .entry))) number ⌝ }
+// Whether one of the two holds.
+fn either(a: bool, b: bool) -> bool
+    ensures { λ r. ⌜ r ≡ (a || b) ⌝ }
 {
-    let n = count_held(words);
-    let mut i = 0;
+    if a { true } else { b }
+}
+
+// Whether the ticket at a place has a number.
+fn has_number(words: &LedgerWords, i: usize, number: u16) -> bool
+    requires { ⌜ i < 512 ⌝ }
+    ensures { λ r. ⌜ r ≡ hasNumber (now (words .entry)) number i ⌝ }
+{
+    number_at(words, i) == number
+}
+
+// The same of two places, of four, and of eight: tests without branches, so that eight places cost little more than one.
+fn among_two(words: &LedgerWords, i: usize, number: u16) -> bool
+    requires { ⌜ i + 2 ≤ 512 ⌝ }
+    ensures { λ r. ⌜ r ≡ among (now (words .entry)) number i 2 ⌝ }
+{
+    either(
+        has_number(words, i, number),
+        has_number(words, i + 1, number),
+    )
+}
+
+fn among_four(words: &LedgerWords, i: usize, number: u16) -> bool
+    requires { ⌜ i + 4 ≤ 512 ⌝ }
+    ensures { λ r. ⌜ r ≡ among (now (words .entry)) number i 4 ⌝ }
+{
+    either(among_two(words, i, number), among_two(words, i + 2, number))
+}
+
+fn among_eight(words: &LedgerWords, i: usize, number: u16) -> bool
+    requires { ⌜ i + 8 ≤ 512 ⌝ }
+    ensures { λ r. ⌜ r ≡ among (now (words .entry)) number i 8 ⌝ }
+{
+    either(
+        among_four(words, i, number),
+        among_four(words, i + 4, number),
+    )
+}
+
+// A place before which no ticket has one of two numbers. Of each place only the first word is read, eight places at a time.
+fn skip(words: &LedgerWords, from: usize, n: usize, a: u16, b: u16) -> usize
+    requires { ⌜ (from ≤ n) × (n ≤ 512) ⌝ }
+    ensures bounded { λ r. ⌜ r ≤ n ⌝ }
+    ensures first { λ r. ⌜ firstOf (ticketsFrom (now (words .entry)) from (n - from)) a ≡ firstOf (ticketsFrom (now (words .entry)) r (n - r)) a ⌝ }
+    ensures second { λ r. ⌜ firstOf (ticketsFrom (now (words .entry)) from (n - from)) b ≡ firstOf (ticketsFrom (now (words .entry)) r (n - r)) b ⌝ }
+{
+    let mut i = from;
+    while i + 8 <= n {
+        if either(among_eight(words, i, a), among_eight(words, i, b)) {
+            return i;
+        }
+        i += 8;
+    }
+    i
+}
+
+// The first ticket of a number among the places from one on to n.
+fn find_from(words: &LedgerWords, from: usize, n: usize, number: u16) -> Held
+    requires { ⌜ (from ≤ n) × (n ≤ 512) ⌝ }
+    ensures { λ r. ⌜ r ≡ firstOf (ticketsFrom (now (words .entry)) from (n - from)) number ⌝ }
+{
+    let mut i = skip(words, from, n, number, number);
     while i < n {
         if number_at(words, i) == number {
             return held(place(words, i));
@@ -176,6 +237,14 @@ pub fn find_ticket(words: &LedgerWords, number: u16) -> Held
         i += 1;
     }
     not_held()
+}
+
+// The first ticket of a number.
+pub fn find_ticket(words: &LedgerWords, number: u16) -> Held
+    ensures { λ r. ⌜ r ≡ firstOf (ticketsOf (now (words .entry))) number ⌝ }
+{
+    let n = count_held(words);
+    find_from(words, 0, n, number)
 }
 
 // The day total: how long the tickets held are valid, together.
@@ -277,7 +346,7 @@ fn put_ticket(words: &mut LedgerWords, i: usize, t: Ticket)
 }
 
 // Stores a ticket behind those held, unless 512 are; tells whether it did.
-pub fn store_ticket(words: &mut LedgerWords, t: Ticket) -> bool
+fn store_ticket(words: &mut LedgerWords, t: Ticket) -> bool
     ensures told { λ r. ⌜ r ≡ ltb (countOf (now (words .entry))) 512 ⌝ }
     ensures stored { λ _. ⌜ now (words .exit) ≡ pickList (ltb (countOf (now (words .entry))) 512) (storeTicket (now (words .entry)) t) (now (words .entry)) ⌝ }
 {

@@ -343,27 +343,3 @@ writable-given t w =
 -- what the reader accepted the writer writes again, byte for byte
 pub written-again : (s : List ℕ) → Bytes s → (t : Ticket) → readTicket s ≡ accepted t → recordOf t ≡ s
 written-again s b t e = given (λ u. recordOf u ≡ s) s t (write-undoes-read s b) e
-
-fixed-most : (s : List ℕ) (m : ℕ) → knownMap m ≡ true → offsetOf ticketLayout s m 8 ≤ 22
-unfolding knownMap offsetOf sizeAt presentIn
-fixed-most s m h =
-    each-among (λ m. offsetOf ticketLayout s m 8 ≤ 22) m (0x0037 ∷ 0x007F ∷ 0x01FF ∷ 0x0237 ∷ 0x027F ∷ 0x03FF ∷ 0x047F ∷ 0x067F ∷ [])
-    (lit≤ tt, (lit≤ tt, (lit≤ tt, (lit≤ tt, (lit≤ tt, (lit≤ tt, (lit≤ tt, (lit≤ tt, tt)))))))) h
-
-pick-most : (p : Bool) (n : ℕ) → n ≤ 8 → pick p (1 + n) 0 ≤ 9
-pick-most true n h = omega arith
-pick-most false n h = omega arith
-
--- the longest record has 31 bytes
-pub record-most : (t : Ticket) → Writable t → length (recordOf t) ≤ 31
-record-most t w =
-    let m : ℕ = mapOfTicket t in
-    let s : List ℕ = recordOf t in
-    let h = back t (w .in-range) (w .well-formed) .readable in
-    omega (
-      arith,
-      readable-length s m h,
-      record-end s m,
-      fixed-most s m (readable-known s m h),
-      pick-most (presentIn m 8) (hopsOf s m) (readable-few s m h),
-    )

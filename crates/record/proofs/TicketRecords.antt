@@ -3,16 +3,18 @@
 use mathlib.Core.Path.{_≡_, refl, sym, ap, _∙_}
 use mathlib.Core.Bool.{Bool, true, false, _&&_, false≢true}
 use mathlib.Core.List.{List, [], _∷_}
-use Prim.Native.Nat.{ℕ, zero, suc, _+_, _-_, _≤_, _<_}
+use Prim.Native.Nat.{ℕ, zero, suc, _+_, _-_, _≤_, _<_, min}
 use native.Mathlib.Nat.{add-zero, add-assoc}
 use native.Mathlib.Numerals.{add-one}
 use native.Mathlib.Omega.{arith}
-use lib.ListN.{length, getD, set, replicate, length-append}
+use lib.ListN.{length, getD, take, set, replicate, length-append}
 use lib.Seq.{set-at, append-snoc}
-use lib.Dec.{leb, eqb}
+use lib.Dec.{leb, eqb, lit≤}
 use borrow.Author.Tests.{leb-true, eqb-true}
-use Rattle.record.specs.Fields.{pick, pickBool, presentIn, numberAt, run, mapOf, sizeAt, offsetOf, fieldOf}
-use Rattle.record.specs.TicketRecords.{ticketLayout, knownMap, hopsOf, hopsFit, readableAs, trailOf, ticketAs, accepted, refused, readTicket}
+use Rattle.record.specs.Fields.{pick, pickBool, presentIn, numberAt, bigEndian, run, mapOf, sizeAt, offsetOf, fieldOf, fieldBytes}
+use Rattle.record.specs.TicketRecords.{ticketLayout, mapFor, knownMap, hopsOf, hopsFit, readableAs, trailOf, ticketAs, accepted, refused, readTicket, pairBytes, headBytes, trailBytes, tailBytes, mapOfTicket, recordAs, recordOf}
+use Rattle.record.specs.declared.ticket.Origin.{Origin}
+use Rattle.record.specs.declared.ticket.Origin.the-variants.{Initial, Direct, SelfIssued, Delegated}
 use Rattle.record.specs.declared.ticket.Ticket.{Ticket}
 use Rattle.record.proofs.Bools.{and-left, and-right, Each, none-among}
 use Rattle.record.proofs.Fields.{number-one, offset-counted, offset-mono, offset-first, length-run}
@@ -131,3 +133,51 @@ read-no s m e h = rw (sym e, h)
 pub read-unknown : (s : List ℕ) (m : ℕ) → m ≡ mapOf s → knownMap m ≡ false → refused ≡ readTicket s
 unfolding readableAs
 read-unknown s m e h = read-no s m e (rw h)
+
+-- ---- The length of a record
+take-length : (n : ℕ) (l : List ℕ) → length (take n l) ≡ min n (length l)
+take-length zero l = omega arith
+take-length (suc n) [] = omega arith
+take-length (suc n) (x ∷ l) = let h = take-length n l in omega arith
+
+-- the bytes up to the trail, and those of the trail in its eight places
+pub record-length : (t : Ticket) → length (t .trail) ≡ 8
+    → pick (knownMap (mapOfTicket t)) (offsetOf ticketLayout [] (mapOfTicket t) 8) 0 + pick (presentIn (mapOfTicket t) 8) (1 + min (t .hops) 8) 0
+    ≡ length (recordOf t)
+unfolding knownMap offsetOf sizeAt recordAs headBytes tailBytes pairBytes fieldBytes trailBytes bigEndian presentIn
+record-length t h = by (t .origin) (t .barred)
+  where
+    taken : length (take (t .hops) (t .trail)) ≡ min (t .hops) 8
+    taken = rw (take-length, h)
+
+    by : (o : Origin) (d : Bool)
+        → pick (knownMap (mapFor o d)) (offsetOf ticketLayout [] (mapFor o d) 8) 0 + pick (presentIn (mapFor o d) 8) (1 + min (t .hops) 8) 0
+        ≡ length (recordAs t (mapFor o d))
+    by Initial true = refl
+    by Initial false = refl
+    by (Direct g) true = refl
+    by (Direct g) false = refl
+    by (SelfIssued g) true = refl
+    by (SelfIssued g) false = refl
+    by (Delegated g e) true = omega (arith, taken)
+    by (Delegated g e) false = omega (arith, taken)
+
+pub pick-most : (p : Bool) (n : ℕ) → n ≤ 8 → pick p (1 + n) 0 ≤ 9
+pick-most true n h = omega arith
+pick-most false n h = omega arith
+
+fixed-most : (o : Origin) (d : Bool) → pick (knownMap (mapFor o d)) (offsetOf ticketLayout [] (mapFor o d) 8) 0 ≤ 22
+unfolding knownMap offsetOf sizeAt presentIn
+fixed-most Initial true = lit≤ tt
+fixed-most Initial false = lit≤ tt
+fixed-most (Direct g) true = lit≤ tt
+fixed-most (Direct g) false = lit≤ tt
+fixed-most (SelfIssued g) true = lit≤ tt
+fixed-most (SelfIssued g) false = lit≤ tt
+fixed-most (Delegated g e) true = lit≤ tt
+fixed-most (Delegated g e) false = lit≤ tt
+
+-- the longest record has 31 bytes
+pub record-most : (t : Ticket) → length (t .trail) ≡ 8 → length (recordOf t) ≤ 31
+record-most t h =
+    omega (arith, record-length t h, fixed-most (t .origin) (t .barred), pick-most (presentIn (mapOfTicket t) 8) (min (t .hops) 8) (omega arith))

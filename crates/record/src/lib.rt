@@ -25,6 +25,7 @@ pub use ticket::Ticket;
 pub use ticket::blank_ticket;
 pub use window::Window;
 pub use writer::Written;
+pub use writer::record_length;
 pub use writer::write_ticket;
 ghost use mathlib.Core.Path.{_≡_};
 ghost use mathlib.Core.Bool.{_&&_};

@@ -49,7 +49,7 @@ fn refused() -> Reading
 }
 
 // The bytes of a record up to its trail, by its map; 0 where the map is no ticket's.
-fn fixed_length(map: u16) -> usize
+pub fn fixed_length(map: u16) -> usize
     ensures exact { λ r. ⌜ ((s : List ℕ) → r ≡ pick (knownMap map) (offsetOf ticketLayout s map 8) 0) ⌝ }
     ensures bounded { λ r. ⌜ r ≤ 22 ⌝ }
 {
@@ -73,7 +73,7 @@ pub fn hops_fit(map: u16, hops: u8) -> bool
 }
 
 // The bytes of the trail and its count.
-fn trail_length(map: u16, hops: u8) -> usize
+pub fn trail_length(map: u16, hops: u8) -> usize
     ensures exact { λ r. ⌜ r ≡ pick (presentIn map 8) (1 + hops) 0 ⌝ }
     ensures bounded { λ r. ⌜ r ≤ 256 ⌝ }
 {

@@ -4,7 +4,9 @@ use crate::both;
 use crate::errors::Error;
 use crate::present;
 use crate::reader::WIDTHS;
+use crate::reader::fixed_length;
 use crate::reader::hops_fit;
+use crate::reader::trail_length;
 use crate::ticket::Origin;
 use crate::ticket::Ticket;
 use crate::ticket::evidence_of;
@@ -12,10 +14,10 @@ use crate::ticket::origin_map;
 use crate::ticket::tgt_of;
 use crate::window::Window;
 ghost use mathlib.Core.Path.{_≡_};
-ghost use Prim.Native.Nat.{_+_, _≤_, _<_};
+ghost use Prim.Native.Nat.{_+_, _≤_, _<_, min};
 ghost use lib.ListN.{length, take, drop};
 ghost use Rattle.record.specs.Fields.{widthOf, bigEndian, fieldBytes};
-ghost use Rattle.record.specs.TicketRecords.{ticketLayout, mapFor, allZero, serviceFits, wellFormed, pairBytes, headBytes, trailBytes, tailBytes, writtenOf, outputOf, Wrote};
+ghost use Rattle.record.specs.TicketRecords.{ticketLayout, mapFor, allZero, serviceFits, wellFormed, pairBytes, headBytes, trailBytes, tailBytes, recordOf, writtenOf, outputOf, Wrote};
 
 // What the writer answers: the record's length, or a refusal.
 pub enum Written {
@@ -158,6 +160,25 @@ fn put_tail(out: &mut [u8], at: usize, t: Ticket, map: u16) -> usize
         evidence_of(origin) as u32,
     );
     put_trail(out, b, map, trail, t.hops)
+}
+
+// The hops that the eight places of a trail hold.
+fn eight_at_most(hops: u8) -> u8
+    ensures exact { λ r. ⌜ r ≡ min hops 8 ⌝ }
+    ensures bounded { λ r. ⌜ r ≤ 8 ⌝ }
+{
+    if hops < 8 { hops } else { 8 }
+}
+
+// The length of a ticket's record.
+pub fn record_length(t: Ticket) -> usize
+    ensures exact { λ r. ⌜ r ≡ length (recordOf t) ⌝ }
+    ensures bounded { λ r. ⌜ r ≤ 31 ⌝ }
+{
+    let origin = t.origin;
+    let map = map_for(origin, t.barred);
+    let fixed = fixed_length(map);
+    fixed + trail_length(map, eight_at_most(t.hops))
 }
 
 // The record of a ticket, at the start of the output; 60 to a ticket that has none, then 52 to an output under 31 bytes.

@@ -18,6 +18,7 @@ use Rattle.record.specs.declared.errors.Error.the-variants.{«KDC_ERR_S_PRINCIP
 use Rattle.record.specs.declared.window.Window.{Window}
 use Rattle.record.specs.declared.ticket.Ticket.{Ticket}
 use Rattle.record.specs.declared.request.Kind.{Kind}
+use Rattle.record.specs.declared.request.Kind.the-variants as kind
 use Rattle.record.specs.declared.request.Request.{Request}
 use Rattle.record.specs.declared.request.Span.{Span}
 use Rattle.rules.specs.Accounts.{Table, account, serves}
@@ -89,9 +90,18 @@ module _ (a : Table) (q : Request) (m : Moment) (u : ℕ) (x : Account) (w : Win
   initial-granted t h e =
       rw (sym ex, sym ew, e) (granted (roomCheck m ∷ []) (userChecks x ++ lastChecks m w) _ (room-held m long) (sym initial-answer ∙ is-accepted r h))
 
+-- an output that is too short comes before what is presented, for every kind
 pub initial-short : (a : Table) (q : Request) (m : Moment) (u : ℕ) → m .room < 31 → refusal (Refused «KRB_ERR_RESPONSE_TOO_BIG») ≡ decideInitial a q m u
 unfolding decideInitial initialChecks
 initial-short a q m u h = rw (lt-leb 31 (m .room) h)
+
+pub room-short : (k : Kind) (a : Table) (s : List ℕ) (q : Request) (h g : Held) (m : Moment) → m .room < 31
+    → refusal (Refused «KRB_ERR_RESPONSE_TOO_BIG») ≡ decideKind k a s q h g m
+unfolding decideDirect directChecks decideSelf selfChecks decideProxy proxyChecks
+room-short kind.Initial a s q h g m l = initial-short a q m _ l
+room-short kind.Direct a s q h g m l = rw (lt-leb 31 (m .room) l)
+room-short kind.S4U2self a s q h g m l = rw (lt-leb 31 (m .room) l)
+room-short kind.S4U2proxy a s q h g m l = rw (lt-leb 31 (m .room) l)
 
 -- the answer of kind 3 from its parts
 pub self-answer : (x y : Account) (m : Moment) (w : Window) (l v r : Answer) → l ≡ judge (lastChecks m w) → v ≡ andThen (judge (userChecks x)) l

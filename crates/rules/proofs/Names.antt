@@ -4,7 +4,7 @@ use mathlib.Core.Path.{_≡_, refl, sym, ap, _∙_}
 use mathlib.Core.Bool.{Bool, true, false, not, _&&_, cond, false≢true}
 use mathlib.Core.List.{List, [], _∷_}
 use mathlib.Core.Logic.{_⊎_, inl, inr}
-use Prim.Native.Nat.{ℕ, zero, suc, _+_, _-_, _*_, _≤_, _<_}
+use Prim.Native.Nat.{ℕ, zero, suc, _+_, _-_, _*_, _%_, _≤_, _<_}
 use native.Mathlib.Nat.{add-zero, eq-or-lt-of-le, le-of-suc-le-suc}
 use native.Mathlib.Numerals.{add-one}
 use native.Mathlib.Omega.{arith}
@@ -12,12 +12,16 @@ use lib.ListN.{length, getD}
 use lib.Dec.{leb, eqb}
 use borrow.Author.Tests.{eq-eqb, ne-eqb}
 use Rattle.rules.specs.Accounts.{Row, noRow, Table, rowOf, lengthAt, nameAt, setLength, rowAt, rowsFrom, tableOf}
-use Rattle.rules.specs.Names.{goodByte, goodBytes, goodName, folded, agree, sameName, matches, numberFrom, taken}
+use Rattle.rules.specs.Names.{goodByte, goodBytes, goodName, lower, folded, agree, sameName, matches, numberFrom, taken}
 use Rattle.rules.proofs.Accounts.{row-of, row-above, row-set, row-unset, name-length}
 
 and-no : (a b : Bool) → b ≡ false → (a && b) ≡ false
 and-no true b h = h
 and-no false b h = refl
+
+and-yes : (a : Bool) → (a && true) ≡ a
+and-yes true = refl
+and-yes false = refl
 
 left-no : (a b : Bool) → a ≡ false → (a && b) ≡ false
 left-no a b h = rw h
@@ -59,23 +63,29 @@ good-all s h g = by (leb 1 (length s)) (leb (length s) 24) h
     by true false k = k
     by false q k = k
 
--- the same of bytes that agree
-pub agree-more : (f : Bool) (a b : List ℕ) (i : ℕ) → agree f a b i ≡ true → folded f (getD a i 0) ≡ folded f (getD b i 0) → agree f a b (i + 1) ≡ true
+-- one byte more: it decides, or the bytes before it do
+pub agree-stop : (f : Bool) (a b : List ℕ) (i : ℕ) → (folded f (getD a i 0) ≡ folded f (getD b i 0) → ⊥) → agree f a b (i + 1) ≡ false
 unfolding agree
-agree-more f a b i h g = rw (add-one, h) (eq-eqb (folded f (getD a i 0)) (folded f (getD b i 0)) g)
+agree-stop f a b i g = rw add-one (and-no (agree f a b i) _ (ne-eqb (folded f (getD a i 0)) (folded f (getD b i 0)) g))
 
-agree-down : (f : Bool) (a b : List ℕ) (i n : ℕ) → (i ≡ n) ⊎ (i < n) → eqb (folded f (getD a i 0)) (folded f (getD b i 0)) ≡ false
-    → (i < n → agree f a b n ≡ false) → agree f a b (suc n) ≡ false
+pub agree-back : (f : Bool) (a b : List ℕ) (i : ℕ) → folded f (getD a i 0) ≡ folded f (getD b i 0) → agree f a b (i + 1) ≡ agree f a b i
 unfolding agree
-agree-down f a b i n (inl e) g r = and-no (agree f a b n) _ (rw e at g)
-agree-down f a b i n (inr l) g r = left-no (agree f a b n) _ (r l)
+agree-back f a b i g = rw (add-one, eq-eqb (folded f (getD a i 0)) (folded f (getD b i 0)) g) (and-yes (agree f a b i))
 
-agree-no : (f : Bool) (a b : List ℕ) (i n : ℕ) → i < n → eqb (folded f (getD a i 0)) (folded f (getD b i 0)) ≡ false → agree f a b n ≡ false
-agree-no f a b i zero h g = absurd (omega arith)
-agree-no f a b i (suc n) h g = agree-down f a b i n (eq-or-lt-of-le (le-of-suc-le-suc h)) g (λ l. agree-no f a b i n l g)
+-- letter case leaves the low five bits of a byte alone, so that bytes with others do not agree
+low-five : (f : Bool) (c : ℕ) → folded f c % 32 ≡ c % 32
+unfolding lower
+low-five true c = by (leb 0x41 c && leb c 0x5A)
+  where
+    by : (p : Bool) → cond p (c + 32) c % 32 ≡ c % 32
+    by true = omega arith
+    by false = refl
+low-five false c = refl
 
-pub agree-stop : (f : Bool) (a b : List ℕ) (i n : ℕ) → i < n → (folded f (getD a i 0) ≡ folded f (getD b i 0) → ⊥) → agree f a b n ≡ false
-agree-stop f a b i n h g = agree-no f a b i n h (ne-eqb (folded f (getD a i 0)) (folded f (getD b i 0)) g)
+pub agree-low : (f : Bool) (a b : List ℕ) (i : ℕ) → eqb (getD a i 0 % 32) (getD b i 0 % 32) ≡ false → agree f a b (i + 1) ≡ false
+agree-low f a b i h =
+    agree-stop f a b i
+    (λ e. false≢true (sym h ∙ eq-eqb (getD a i 0 % 32) (getD b i 0 % 32) (sym (low-five f (getD a i 0)) ∙ ap (λ (c : ℕ). c % 32) e ∙ low-five f (getD b i 0))))
 
 -- the name of row n of the words w is s, with letter case ignored or not
 abbrev pub named : List ℕ → ℕ → Bool → List ℕ → Bool

@@ -5,7 +5,7 @@ use crate::byte_at;
 use crate::length_at;
 use crate::set_length;
 ghost use mathlib.Core.Path.{_≡_};
-ghost use mathlib.Core.Bool.{_&&_};
+ghost use mathlib.Core.Bool.{Bool, false, _&&_};
 ghost use Prim.Native.Nat.{_+_, _*_, _<_, _≤_};
 ghost use lib.ListN.{length};
 ghost use Rattle.rules.specs.Accounts.{rowOf, tableOf, nameAt};
@@ -53,19 +53,44 @@ fn fold(ignore: bool, c: u8) -> u8
     if ignore { to_lower(c) } else { c }
 }
 
-// Whether the first bytes of a row's name and those of another agree.
+// Whether the last bytes of a row's name and of another of its length have the same low five bits, which letter case leaves alone.
+// Few names that differ get past this test.
+fn ends_alike(words: &AccountWords, n: usize, name: &[u8]) -> bool
+    requires { ⌜ (n < 64) × (length (now name) ≤ 24) ⌝ }
+    ensures { λ r. ⌜ (r ≡ false → (f : Bool) → agree f (nameAt (now (words .entry)) (6 * n) (length (now (name .entry)))) (now (name .entry)) (length (now (name .entry))) ≡ false) ⌝ }
+{
+    if name.len() == 0 {
+        return true;
+    }
+    let last = name.len() - 1;
+    byte_at(words, n, last) % 32 == name[last] % 32
+}
+
+// Whether the bytes of a row's name and of another of its length agree, from the last one on.
+fn bytes_agree(words: &AccountWords, n: usize, ignore: bool, name: &[u8]) -> bool
+    requires { ⌜ (n < 64) × (length (now name) ≤ 24) ⌝ }
+    ensures { λ r. ⌜ r ≡ agree ignore (nameAt (now (words .entry)) (6 * n) (length (now (name .entry)))) (now (name .entry)) (length (now (name .entry))) ⌝ }
+{
+    let mut i = name.len();
+    while 0 < i {
+        i -= 1;
+        if fold(ignore, byte_at(words, n, i)) != fold(ignore, name[i]) {
+            return false;
+        }
+    }
+    true
+}
+
+// Whether a row's name and another of its length agree.
 fn agrees(words: &AccountWords, n: usize, ignore: bool, name: &[u8]) -> bool
     requires { ⌜ (n < 64) × (length (now name) ≤ 24) ⌝ }
     ensures { λ r. ⌜ r ≡ agree ignore (nameAt (now (words .entry)) (6 * n) (length (now (name .entry)))) (now (name .entry)) (length (now (name .entry))) ⌝ }
 {
-    let mut i = 0;
-    while i < name.len() {
-        if fold(ignore, byte_at(words, n, i)) != fold(ignore, name[i]) {
-            return false;
-        }
-        i += 1;
+    if ends_alike(words, n, name) {
+        bytes_agree(words, n, ignore, name)
+    } else {
+        false
     }
-    true
 }
 
 // Whether a row is set and has a name, with letter case ignored or not. The length is looked at first.

@@ -1,18 +1,16 @@
--- Laws of the calls: what a reading says of the answer and of the output, the bound on the length of a record that is written again or
--- granted, and the ledger's promises in numbers.
+-- Laws of the calls: what a reading says of the answer and of the output, the bound on the length of a record that is written again, and
+-- the ledger's promises in numbers.
 -- Assumes nothing.
 use Prim.Native.Nat.{ℕ, _≤_}
 use native.Mathlib.Omega.{arith}
-use mathlib.Core.Path.{_≡_, refl, sym, ap, _∙_}
+use mathlib.Core.Path.{_≡_, sym, ap, _∙_}
 use mathlib.Core.Bool.{Bool, true, false}
 use mathlib.Core.List.{List, []}
 use lib.ListN.{length}
 use lib.Dec.{leb}
-use mir.Syntax.{w32}
-use mir.Val.{Fits}
 use Rattle.record.specs.Errors.{answerNumber}
 use Rattle.record.specs.Fields.{Bytes}
-use Rattle.record.specs.TicketRecords.{Writable, blankTicket, wellFormed, mapOfTicket, recordOf, pickWritten, writtenOf, readTicket, accepted}
+use Rattle.record.specs.TicketRecords.{blankTicket, wellFormed, mapOfTicket, recordOf, pickWritten, writtenOf, readTicket, accepted}
 use Rattle.record.specs.declared.errors.Error.{Error}
 use Rattle.record.specs.declared.errors.Error.the-variants.{«KRB_ERR_RESPONSE_TOO_BIG», «KRB_ERR_GENERIC»}
 use Rattle.record.specs.declared.errors.Answer.{Answer}
@@ -21,16 +19,14 @@ use Rattle.record.specs.declared.ticket.Ticket.{Ticket}
 use Rattle.record.specs.declared.reader.Reading.{Reading}
 use Rattle.record.specs.declared.writer.Written.{Written}
 use Rattle.record.specs.declared.writer.Written.the-variants.{Length, Refused as Unwritten}
-use Rattle.record.proofs.RoundTrip.{given-writable, record-most}
+use Rattle.record.proofs.TicketRecords.{record-most}
+use Rattle.record.proofs.RoundTrip.{given-writable}
 use Rattle.rules.specs.Accounts.{tableOf}
 use Rattle.rules.specs.Edits.{Edit, editAnswer, storedBy}
 use Rattle.rules.specs.declared.decision.Decision.{Decision}
-use Rattle.rules.proofs.Accounts.{rows-length}
-use Rattle.rules.proofs.Grants.{Grants}
 use Rattle.ledger.specs.Words.{ticketsOf}
 use Rattle.ledger.specs.Book.{decideRequest}
 use Rattle.ledger.specs.History.{Edited, Requested}
-use Rattle.ledger.proofs.Requests.{grant-tells, grant-writable}
 use Rattle.tickets.specs.declared.TicketsAnswer.{TicketsAnswer}
 use Rattle.tickets.specs.Calls.{answerOf, requestAnswer, replyWith}
 
@@ -53,16 +49,8 @@ pub value-most : (s : List ℕ) → Bytes s → (r : Reading) → r ≡ readTick
     → (w : Written) (k n : ℕ) → w ≡ writtenOf (r .ticket) k → w ≡ Length n → n ≤ 31
 value-most s b r e a w k n h l =
     let read : readTicket s ≡ accepted (r .ticket) = sym e ∙ (λ i. record { answer = a i; ticket = r .ticket }) in
-    let most = record-most (r .ticket) (given-writable (r .ticket) (record { bytes = s; are-bytes = b; read = read })) in
+    let most = record-most (r .ticket) (given-writable (r .ticket) (record { bytes = s; are-bytes = b; read = read }) .in-range .places) in
     omega (arith, most, written-length (r .ticket) k n (sym h ∙ l))
-
--- ---- A ticket that the writer accepts: its record's length, in an output of 31 bytes
-pub granted-length : (t : Ticket) → Writable t → writtenOf t 31 ≡ Length (length (recordOf t))
-unfolding writtenOf
-granted-length t w = rw (w .well-formed)
-
-pub granted-most : (t : Ticket) → Writable t → (w : Written) (n : ℕ) → w ≡ writtenOf t 31 → w ≡ Length n → n ≤ 31
-granted-most t v w n h l = omega (arith, record-most t v, written-length t 31 n (sym h ∙ l))
 
 -- ---- An edit's promise, in numbers
 pub edit-call : (w w' : List ℕ) (x : Edit) (r : Answer)
@@ -75,13 +63,6 @@ module _ (a w s : List ℕ) (clock : ℕ) (o : List ℕ) (d : Decision) (w' o' :
     (p : Requested (record { accounts = a; ledger = w }) s clock o (replyWith d o') (record { accounts = a; ledger = w' })) where
   decided : d ≡ decideRequest (tableOf a) (ticketsOf w) s clock (length o)
   decided = p .decided
-
-  -- the writer accepts a ticket that is granted
-  pub granted-writable : Bytes s → Fits w32 clock → d .answer ≡ Accepted → Writable (d .ticket)
-  granted-writable b f h =
-      let g : Grants (decideRequest (tableOf a) (ticketsOf w) s clock (length o)) (d .ticket) = sym decided ∙ (λ i. record { answer = h i; ticket = d .ticket }) in
-      grant-writable (tableOf a) (ticketsOf w) s clock (length o) (d .ticket) (rows-length a 0 64) b f
-      (grant-tells (tableOf a) (ticketsOf w) s clock (length o) (d .ticket) g)
 
   pub request-call : (r : Answer) → d .answer ≡ r → (x : TicketsAnswer) → x ≡ answerOf r (d .ticket)
       → (x ≡ requestAnswer (decideRequest (tableOf a) (ticketsOf w) s clock (length o)))

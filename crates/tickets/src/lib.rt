@@ -14,7 +14,7 @@ ghost use mathlib.Core.Path.{_≡_};
 ghost use Prim.Native.Nat.{ℕ, _≤_};
 ghost use lib.ListN.{length, replicate};
 ghost use Rattle.record.specs.Errors.{numberOf, answerNumber};
-ghost use Rattle.record.specs.TicketRecords.{readTicket, Writable};
+ghost use Rattle.record.specs.TicketRecords.{readTicket};
 ghost use Rattle.record.specs.Requests.{readRequest};
 ghost use Rattle.rules.specs.Accounts.{tableOf};
 ghost use Rattle.rules.specs.Edits.{editOf, editAnswer, storedBy};
@@ -160,12 +160,12 @@ pub extern "C" fn tickets_edit(
 
 // The answer of a grant: its record's length.
 fn granted(ticket: Ticket) -> TicketsAnswer
-    requires { ⌜ Writable ticket ⌝ }
     ensures { λ r. ⌜ r ≡ grant ticket ⌝ }
 {
-    let mut space = [0u8; 31];
-    let written = record::write_ticket(ticket, &mut space);
-    written_answer(written)
+    TicketsAnswer {
+        error: 0,
+        value: record::record_length(ticket) as u32,
+    }
 }
 
 // Answers a request: the length of the record at the output's start, or the refusal's number.

@@ -1,16 +1,9 @@
 use denote.Ref.{now}
 use Rattle.record.specs.declared.errors.Answer.the-variants.{Accepted, Refused}
-use Rattle.tickets.proofs.Calls.{granted-writable, request-call}
+use Rattle.tickets.proofs.Calls.{request-call}
 use borrow.Author.Needs.{needs}
 use Rattle.tickets.proofs.tickets_request.Statement.{statement}
 use Rattle.tickets.proofs.tickets_request.Tie as tie
-
-granted-requires : tie.Need-granted-requires
-granted-requires c κs =
-    let a = c .before .before .before .before .before .before .before .before .before .args in
-    let r = c .before .before .before .before .request in
-    granted-writable (now (a .accounts)) (now (a .ledger)) (now (a .request)) (a .clock) (now (a .output)) (r .result) (r .last .1 .0) (r .last .1 .1 .1 .1 .0) (r .ensures)
-    (λ k. c .before .before .before .before .before .before .before .before .shared-slice-known .given k) (c .before .before .before .before .before .before .before .before .before .fits .clock) (c .enum-told .given .1)
 
 returns : tie.Need-returns
 returns c =
@@ -30,5 +23,5 @@ returns-2 c =
 pub tickets-request-spec : {M : Type 1} → statement M
 tickets-request-spec =
     tie.close
-    (tie.spec (λ c κs. search needs) (λ c. search needs) granted-requires (λ c. search needs) (λ c κs. search needs)
+    (tie.spec (λ c κs. search needs) (λ c. search needs) (λ c κs. search needs) (λ c. search needs) (λ c κs. search needs)
     (λ c. search needs) returns (λ c. search needs) returns-2)

@@ -1,57 +1,10 @@
-use mathlib.Core.Path.{_≡_, refl, sym, _∙_}
-use Prim.Native.Nat.{ℕ, _*_, _≤_, _-_}
-use mathlib.Core.Bool.{true}
-use mathlib.Core.Path.{ap}
-use native.Mathlib.Omega.{arith}
-use lib.ListN.{length, getD}
-use denote.Ref.{now}
-use Rattle.rules.specs.Accounts.{nameAt}
-use Rattle.rules.specs.Names.{folded, agree}
-use Rattle.rules.proofs.Accounts.{name-byte}
-use Rattle.rules.proofs.Names.{agree-more, agree-stop}
+use mathlib.Core.Path.{sym}
 use borrow.Author.Needs.{needs}
 use Rattle.rules.proofs.name.agrees.Statement.{statement}
 use Rattle.rules.proofs.name.agrees.Tie as tie
 
-abbrev Inv-loop : tie.InvT-loop
-Inv-loop words n ignore name i₀ i = (i ≤ length name) × (agree ignore (nameAt words (6 * n) (length name)) name i ≡ true)
-
-abbrev μ-loop : tie.MeasureT-loop
-μ-loop words n ignore name i₀ i = length name - i
-
-loop-holds : tie.Need-loop-holds Inv-loop μ-loop
-unfolding agree
-loop-holds c = (search needs, refl)
-
-returns : tie.Need-returns Inv-loop μ-loop
-returns c =
-    let a = c .before .before .before .before .before .before .before .before .args in
-    let s = now (a .name) in
-    let w = now (a .words) in
-    let i = c .before .before .before .before .before .before .loop .i in
-    let e : getD (nameAt w (6 * a .n) (length s)) i 0 ≡ c .before .before .before .before .byte-at .result = name-byte w (6 * a .n) (length s) i (omega arith) ∙ sym (c .before .before .before .before .byte-at .ensures) in
-    sym (agree-stop (a .ignore) (nameAt w (6 * a .n) (length s)) s i (length s) (omega arith)
-    (λ q. c .if1 .taken (c .before .before .before .fold .ensures ∙ ap (folded (a .ignore)) (sym e) ∙ q ∙ sym (c .before .fold2 .ensures))))
-
-loop-again : tie.Need-loop-again Inv-loop μ-loop
-loop-again c =
-    let a = c .before .before .before .before .before .before .before .before .args in
-    let s = now (a .name) in
-    let w = now (a .words) in
-    let l = c .before .before .before .before .before .before .loop in
-    let e : getD (nameAt w (6 * a .n) (length s)) (l .i) 0 ≡ c .before .before .before .before .byte-at .result = name-byte w (6 * a .n) (length s) (l .i) (omega arith) ∙ sym (c .before .before .before .before .byte-at .ensures) in (
-      search needs,
-      agree-more (a .ignore) (nameAt w (6 * a .n) (length s)) s (l .i) (l .inv .1)
-          (ap (folded (a .ignore)) e ∙ sym (c .before .before .before .fold .ensures) ∙ c .if1 .left ∙ c .before .fold2 .ensures),
-    )
-
-returns-2 : tie.Need-returns-2 Inv-loop μ-loop
-returns-2 c =
-    let e : c .before .loop .i ≡ length (now (c .before .before .before .args .name)) = omega arith in
-    sym (rw e at (c .before .loop .inv .1))
+returns-2 : tie.Need-returns-2
+returns-2 c = sym (c .before .ends-alike .ensures (c .if1 .left) (c .before .before .before .args .ignore))
 
 pub agrees-spec : {M : Type 1} → statement M
-agrees-spec =
-    tie.close
-    (tie.spec Inv-loop μ-loop loop-holds (λ c κs. search needs) (λ c κs. search needs) (λ c. search needs)
-    (λ c κs. search needs) returns (λ c. search needs) (λ c. search needs) loop-again returns-2)
+agrees-spec = tie.close (tie.spec (λ c κs. search needs) (λ c κs. search needs) (λ c. search needs) returns-2)
