@@ -179,7 +179,7 @@ fn has_number(words: &LedgerWords, i: usize, number: u16) -> bool
     number_at(words, i) == number
 }
 
-// The same of two places, of four, and of eight: tests without branches, so that eight places cost little more than one.
+// The same of two places, of four, of eight and of sixteen: tests without branches, so that many places cost little more than one.
 fn among_two(words: &LedgerWords, i: usize, number: u16) -> bool
     requires { ⌜ i + 2 ≤ 512 ⌝ }
     ensures { λ r. ⌜ r ≡ among (now (words .entry)) number i 2 ⌝ }
@@ -207,7 +207,17 @@ fn among_eight(words: &LedgerWords, i: usize, number: u16) -> bool
     )
 }
 
-// A place before which no ticket has one of two numbers. Of each place only the first word is read, eight places at a time.
+fn among_sixteen(words: &LedgerWords, i: usize, number: u16) -> bool
+    requires { ⌜ i + 16 ≤ 512 ⌝ }
+    ensures { λ r. ⌜ r ≡ among (now (words .entry)) number i 16 ⌝ }
+{
+    either(
+        among_eight(words, i, number),
+        among_eight(words, i + 8, number),
+    )
+}
+
+// A place before which no ticket has one of two numbers. Of each place only the first word is read, sixteen places at a time.
 fn skip(words: &LedgerWords, from: usize, n: usize, a: u16, b: u16) -> usize
     requires { ⌜ (from ≤ n) × (n ≤ 512) ⌝ }
     ensures bounded { λ r. ⌜ r ≤ n ⌝ }
@@ -215,11 +225,11 @@ fn skip(words: &LedgerWords, from: usize, n: usize, a: u16, b: u16) -> usize
     ensures second { λ r. ⌜ firstOf (ticketsFrom (now (words .entry)) from (n - from)) b ≡ firstOf (ticketsFrom (now (words .entry)) r (n - r)) b ⌝ }
 {
     let mut i = from;
-    while i + 8 <= n {
-        if either(among_eight(words, i, a), among_eight(words, i, b)) {
+    while i + 16 <= n {
+        if either(among_sixteen(words, i, a), among_sixteen(words, i, b)) {
             return i;
         }
-        i += 8;
+        i += 16;
     }
     i
 }

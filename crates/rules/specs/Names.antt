@@ -1,11 +1,13 @@
 -- Names: which are good, which match, and which account a name stands for. Document 01, "Accounts".
 -- Assumes nothing.
-use Prim.Native.Nat.{ℕ, zero, suc, _+_}
+use Prim.Native.Nat.{ℕ, zero, suc, _+_, _-_, _*_, min}
 use mathlib.Core.Bool.{Bool, true, false, not, _&&_, cond}
 use mathlib.Core.List.{List, [], _∷_}
 use lib.ListN.{length, getD}
 use lib.Dec.{leb, eqb}
-use Rattle.rules.specs.Accounts.{Row, Table}
+use lib.Bits.{bitAnd}
+use Rattle.rules.specs.Accounts.{Row, Table, rowOf, tableOf, packAt}
+use Rattle.rules.specs.declared.name.Trace.{Trace}
 
 -- "0x21 to 0x7E without 0x40"
 abbrev pub goodByte : ℕ → Bool
@@ -55,3 +57,34 @@ findName a name = numberFrom 0 a name
 unfoldable pub taken : ℕ → ℕ → Table → List ℕ → Bool
 taken k n [] name = false
 taken k n (x ∷ xs) name = cond (not (eqb n k) && matches x name) true (taken k (n + 1) xs name)
+
+-- ---- How the code searches: by words, each with a mask
+-- the name of row n of the words w is s, with letter case ignored or not
+abbrev pub named : List ℕ → ℕ → Bool → List ℕ → Bool
+named w n f s = rowOf (tableOf w) n .account .known && sameName f (rowOf (tableOf w) n .name) s
+
+-- the low five bits of each of n bytes
+unfoldable pub lows : ℕ → ℕ
+lows zero = 0
+lows (suc n) = lows n * 256 + 31
+
+-- those of the bytes of a name of length n in the word of its bytes from i on
+abbrev pub lowsFrom : ℕ → ℕ → ℕ
+lowsFrom n i = lows (min (n - i) 8)
+
+-- what stands under them in a name
+abbrev pub lowsOf : List ℕ → ℕ → ℕ
+lowsOf s i = bitAnd (packAt s i 8) (lowsFrom (length s) i)
+
+-- the trace of a name
+abbrev pub traceOf : List ℕ → Trace
+traceOf s =
+    record {
+      length = length s;
+      mask0 = lowsFrom (length s) 0;
+      mask1 = lowsFrom (length s) 8;
+      mask2 = lowsFrom (length s) 16;
+      low0 = lowsOf s 0;
+      low1 = lowsOf s 8;
+      low2 = lowsOf s 16;
+    }

@@ -3,13 +3,18 @@ use crate::AccountWords;
 use crate::both;
 use crate::byte_at;
 use crate::length_at;
+use crate::pack;
 use crate::set_length;
 ghost use mathlib.Core.Path.{_≡_};
-ghost use mathlib.Core.Bool.{Bool, false, _&&_};
-ghost use Prim.Native.Nat.{_+_, _*_, _<_, _≤_};
-ghost use lib.ListN.{length};
+ghost use mathlib.Core.Bool.{true, false, _&&_};
+ghost use mathlib.Core.List.{List};
+ghost use Prim.Native.Nat.{ℕ, _+_, _*_, _<_, _≤_};
+ghost use lib.ListN.{length, getD};
+ghost use lib.Dec.{eqb};
+ghost use lib.Bits.{bitAnd};
+ghost use Rattle.record.specs.Fields.{Bytes};
 ghost use Rattle.rules.specs.Accounts.{rowOf, tableOf, nameAt};
-ghost use Rattle.rules.specs.Names.{goodByte, goodName, lower, folded, agree, sameName, findName, taken};
+ghost use Rattle.rules.specs.Names.{goodByte, goodName, lower, folded, agree, sameName, findName, taken, named, lowsFrom, traceOf};
 
 // Whether a byte may stand in a name.
 fn good_byte(c: u8) -> bool
@@ -53,21 +58,8 @@ fn fold(ignore: bool, c: u8) -> u8
     if ignore { to_lower(c) } else { c }
 }
 
-// Whether the last bytes of a row's name and of another of its length have the same low five bits, which letter case leaves alone.
-// Few names that differ get past this test.
-fn ends_alike(words: &AccountWords, n: usize, name: &[u8]) -> bool
-    requires { ⌜ (n < 64) × (length (now name) ≤ 24) ⌝ }
-    ensures { λ r. ⌜ (r ≡ false → (f : Bool) → agree f (nameAt (now (words .entry)) (6 * n) (length (now (name .entry)))) (now (name .entry)) (length (now (name .entry))) ≡ false) ⌝ }
-{
-    if name.len() == 0 {
-        return true;
-    }
-    let last = name.len() - 1;
-    byte_at(words, n, last) % 32 == name[last] % 32
-}
-
 // Whether the bytes of a row's name and of another of its length agree, from the last one on.
-fn bytes_agree(words: &AccountWords, n: usize, ignore: bool, name: &[u8]) -> bool
+fn agrees(words: &AccountWords, n: usize, ignore: bool, name: &[u8]) -> bool
     requires { ⌜ (n < 64) × (length (now name) ≤ 24) ⌝ }
     ensures { λ r. ⌜ r ≡ agree ignore (nameAt (now (words .entry)) (6 * n) (length (now (name .entry)))) (now (name .entry)) (length (now (name .entry))) ⌝ }
 {
@@ -81,21 +73,9 @@ fn bytes_agree(words: &AccountWords, n: usize, ignore: bool, name: &[u8]) -> boo
     true
 }
 
-// Whether a row's name and another of its length agree.
-fn agrees(words: &AccountWords, n: usize, ignore: bool, name: &[u8]) -> bool
-    requires { ⌜ (n < 64) × (length (now name) ≤ 24) ⌝ }
-    ensures { λ r. ⌜ r ≡ agree ignore (nameAt (now (words .entry)) (6 * n) (length (now (name .entry)))) (now (name .entry)) (length (now (name .entry))) ⌝ }
-{
-    if ends_alike(words, n, name) {
-        bytes_agree(words, n, ignore, name)
-    } else {
-        false
-    }
-}
-
 // Whether a row is set and has a name, with letter case ignored or not. The length is looked at first.
 pub fn has_name(words: &AccountWords, n: usize, ignore: bool, name: &[u8]) -> bool
-    ensures { λ r. ⌜ r ≡ (rowOf (tableOf (now (words .entry))) n .account .known && sameName ignore (rowOf (tableOf (now (words .entry))) n .name) (now (name .entry))) ⌝ }
+    ensures { λ r. ⌜ r ≡ named (now (words .entry)) n ignore (now (name .entry)) ⌝ }
 {
     if 64 <= n {
         return false;
@@ -109,14 +89,101 @@ pub fn has_name(words: &AccountWords, n: usize, ignore: bool, name: &[u8]) -> bo
     agrees(words, n, ignore, name)
 }
 
+// The low five bits of each of eight bytes, which letter case leaves alone.
+const LOWS: u64 = 0x1F1F1F1F1F1F1F1F;
+
+// What a search compares rows with, so that it looks at words and not at bytes: the name's length, and for each of the three words of a
+// name a mask and what stands under it.
+struct Trace {
+    length: usize,
+    mask0: u64,
+    mask1: u64,
+    mask2: u64,
+    low0: u64,
+    low1: u64,
+    low2: u64,
+}
+
+// The mask for those bytes of a name of a length that lie in the word from a position on.
+fn mask_from(length: usize, from: usize) -> u64
+    ensures { λ r. ⌜ r ≡ lowsFrom length from ⌝ }
+{
+    if length <= from {
+        return 0;
+    }
+    let rest = length - from;
+    if rest < 8 {
+        LOWS >> (64 - 8 * rest)
+    } else {
+        LOWS
+    }
+}
+
+// The trace of a name.
+fn trace_of(name: &[u8]) -> Trace
+    ensures { λ r. ⌜ r ≡ traceOf (now (name .entry)) ⌝ }
+{
+    let length = name.len();
+    let mask0 = mask_from(length, 0);
+    let mask1 = mask_from(length, 8);
+    let mask2 = mask_from(length, 16);
+    Trace {
+        length,
+        mask0,
+        mask1,
+        mask2,
+        low0: pack(name, 0) & mask0,
+        low1: pack(name, 8) & mask1,
+        low2: pack(name, 16) & mask2,
+    }
+}
+
+// Whether a word of a row's name may be that of a name with this trace.
+fn fits_trace(words: &AccountWords, at: usize, mask: u64, low: u64) -> bool
+    requires { ⌜ at < 384 ⌝ }
+    ensures { λ r. ⌜ r ≡ eqb (bitAnd (getD (now (words .entry)) at 0) mask) low ⌝ }
+{
+    words[at] & mask == low
+}
+
+// Whether a row may match the name of a trace. Few that do not match get past this.
+fn may_match(words: &AccountWords, n: usize, t: Trace) -> bool
+    requires { ⌜ n < 64 ⌝ }
+    ensures { λ r. ⌜ ((s : List ℕ) → Bytes s → t ≡ traceOf s → r ≡ false → named (now (words .entry)) n true s ≡ false) ⌝ }
+{
+    if length_at(words, n) != t.length {
+        return false;
+    }
+    if !fits_trace(words, 6 * n, t.mask0, t.low0) {
+        return false;
+    }
+    if !fits_trace(words, 6 * n + 1, t.mask1, t.low1) {
+        return false;
+    }
+    fits_trace(words, 6 * n + 2, t.mask2, t.low2)
+}
+
+// Whether a row is set and matches a name, whose trace is given.
+fn matches(words: &AccountWords, n: usize, name: &[u8], t: Trace) -> bool
+    requires { ⌜ (n < 64) × (t ≡ traceOf (now name)) ⌝ }
+    ensures { λ r. ⌜ r ≡ named (now (words .entry)) n true (now (name .entry)) ⌝ }
+{
+    if may_match(words, n, t) {
+        has_name(words, n, true, name)
+    } else {
+        false
+    }
+}
+
 // The lowest account that is set and matches a name; 64 where none does.
 pub fn find_name(words: &AccountWords, name: &[u8]) -> usize
     ensures exact { λ r. ⌜ r ≡ findName (tableOf (now (words .entry))) (now (name .entry)) ⌝ }
     ensures bounded { λ r. ⌜ r ≤ 64 ⌝ }
 {
+    let t = trace_of(name);
     let mut i = 0;
     while i < 64 {
-        if has_name(words, i, true, name) {
+        if matches(words, i, name, t) {
             return i;
         }
         i += 1;
@@ -128,9 +195,10 @@ pub fn find_name(words: &AccountWords, name: &[u8]) -> usize
 pub fn name_taken(words: &AccountWords, number: usize, name: &[u8]) -> bool
     ensures { λ r. ⌜ r ≡ taken number 0 (tableOf (now (words .entry))) (now (name .entry)) ⌝ }
 {
+    let t = trace_of(name);
     let mut i = 0;
     while i < 64 {
-        if both(i != number, has_name(words, i, true, name)) {
+        if both(i != number, matches(words, i, name, t)) {
             return true;
         }
         i += 1;

@@ -25,12 +25,12 @@ loop-again : tie.Need-loop-again Inv-loop μ-loop
 loop-again c =
     let a = c .before .before .before .before .before .before .args in
     let l = c .before .before .before .before .before .loop in
-    let x = c .before .before .before .among-eight in
-    let y = c .before .before .among-eight2 in
+    let x = c .before .before .before .among-sixteen in
+    let y = c .before .before .among-sixteen2 in
     let p = or-no (x .result) (y .result) (sym (c .before .either .ensures) ∙ c .if1 .left) in (
       search needs,
-      l .inv .1 ∙ among-none (now (a .words)) (a .a) (l .i) 8 (a .n) (omega arith) (sym (x .ensures) ∙ p .0),
-      l .inv .2 ∙ among-none (now (a .words)) (a .b) (l .i) 8 (a .n) (omega arith) (sym (y .ensures) ∙ p .1),
+      l .inv .1 ∙ among-none (now (a .words)) (a .a) (l .i) 16 (a .n) (omega arith) (sym (x .ensures) ∙ p .0),
+      l .inv .2 ∙ among-none (now (a .words)) (a .b) (l .i) 16 (a .n) (omega arith) (sym (y .ensures) ∙ p .1),
     )
 
 pub skip-spec : {M : Type 1} → statement M

@@ -10,33 +10,33 @@ use Rattle.rules.proofs.name.name_taken.Statement.{statement}
 use Rattle.rules.proofs.name.name_taken.Tie as tie
 
 abbrev Inv-loop : tie.InvT-loop
-Inv-loop words number name i₀ i = (i ≤ 64) × (taken number 0 (tableOf words) name ≡ taken number i (rowsFrom words i (64 - i)) name)
+Inv-loop words number name t i₀ i = (i ≤ 64) × (taken number 0 (tableOf words) name ≡ taken number i (rowsFrom words i (64 - i)) name)
 
 abbrev μ-loop : tie.MeasureT-loop
-μ-loop words number name i₀ i = 64 - i
+μ-loop words number name t i₀ i = 64 - i
 
 loop-holds : tie.Need-loop-holds Inv-loop μ-loop
 loop-holds c = (search needs, refl)
 
 returns : tie.Need-returns Inv-loop μ-loop
 returns c =
-    let a = c .before .before .before .before .before .before .args in
+    let a = c .before .before .before .before .before .before .before .args in
     let l = c .before .before .before .before .loop in
-    sym (l .inv .1 ∙ taken-here (now (a .words)) (a .number) (l .i) (now (a .name)) (omega arith) (sym (rw (c .before .before .has-name .ensures) at (c .before .both .ensures)) ∙ c .if1 .taken))
+    sym (l .inv .1 ∙ taken-here (now (a .words)) (a .number) (l .i) (now (a .name)) (omega arith) (sym (rw (c .before .before .matches .ensures) at (c .before .both .ensures)) ∙ c .if1 .taken))
 
 loop-again : tie.Need-loop-again Inv-loop μ-loop
 loop-again c =
-    let a = c .before .before .before .before .before .before .args in
+    let a = c .before .before .before .before .before .before .before .args in
     let l = c .before .before .before .before .loop in
-    (search needs, l .inv .1 ∙ taken-on (now (a .words)) (a .number) (l .i) (now (a .name)) (omega arith) (sym (rw (c .before .before .has-name .ensures) at (c .before .both .ensures)) ∙ c .if1 .left))
+    (search needs, l .inv .1 ∙ taken-on (now (a .words)) (a .number) (l .i) (now (a .name)) (omega arith) (sym (rw (c .before .before .matches .ensures) at (c .before .both .ensures)) ∙ c .if1 .left))
 
 returns-2 : tie.Need-returns-2 Inv-loop μ-loop
 returns-2 c =
-    let a = c .before .before .before .args in
+    let a = c .before .before .before .before .args in
     sym (c .before .loop .inv .1 ∙ taken-end (now (a .words)) (a .number) (c .before .loop .i) (now (a .name)) (omega arith))
 
 pub name-taken-spec : {M : Type 1} → statement M
 name-taken-spec =
     tie.close
-    (tie.spec Inv-loop μ-loop loop-holds (λ c κs. search needs) (λ c κs. search needs) returns (λ c. search needs)
+    (tie.spec Inv-loop μ-loop (λ c κs. search needs) loop-holds (λ c κs. search needs) (λ c κs. search needs) returns (λ c. search needs)
     (λ c. search needs) loop-again returns-2)
