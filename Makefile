@@ -1,9 +1,10 @@
 # run: builds the program and starts it. test: all that must hold, ending in `rt ci`. library: proves and builds target/staticlib/libtickets.a.
-# bench: times the compiled library (docs/PERFORMANCE.md).
+# bench: times the compiled library (docs/PERFORMANCE.md). valgrind: makes 20,000 of its calls under valgrind.
 CARGO = cargo --quiet
 HARNESS = --offline --release --manifest-path harness/Cargo.toml
+LIBRARY = $(HARNESS) --features library
 PROGRAM = console
-.PHONY: run test bench library
+.PHONY: run test bench library valgrind
 
 run:
 	@mkdir -p target
@@ -15,7 +16,8 @@ test:
 	$(CARGO) test $(HARNESS)
 	$(CARGO) run $(HARNESS) --bin record_vectors | cmp - crates/record_vectors/stdout
 	@$(MAKE) --no-print-directory library
-	$(CARGO) test $(HARNESS) --features library --test library
+	$(CARGO) test $(LIBRARY) --test library --test morning --test faults --test properties
+	$(CARGO) test $(LIBRARY) --test differential -- --nocapture
 	rt ci
 
 library:
@@ -23,4 +25,7 @@ library:
 	@rt staticlib tickets >target/library.log 2>&1 || { cat target/library.log; exit 1; }
 
 bench: library
-	@$(CARGO) run $(HARNESS) --features library --bin bench
+	@$(CARGO) run $(LIBRARY) --bin bench
+
+valgrind: library
+	@$(CARGO) run $(LIBRARY) --bin calls --config 'target."cfg(all())".runner = "valgrind --error-exitcode=1 -q"'

@@ -1,8 +1,37 @@
 //! The compiled library: the calls of include/tickets.h, over slices.
 
+use crate::accounts::Edit;
 use crate::calls::{Answer, RequestFields};
+use crate::words::{AccountWords, LedgerWords, ACCOUNT_WORDS, LEDGER_WORDS};
 
 extern "C" {
+    fn tickets_fresh(accounts: *mut u64, ledger: *mut u64);
+
+    fn tickets_edit(
+        accounts: *mut u64,
+        number: u32,
+        name: *const u8,
+        name_len: usize,
+        flags: u32,
+        send: u64,
+        receive: u64,
+        lifetime: u32,
+    ) -> u32;
+
+    fn tickets_request(
+        accounts: *mut u64,
+        ledger: *mut u64,
+        request: *const u8,
+        request_len: usize,
+        clock: u32,
+        output: *mut u8,
+        output_len: usize,
+    ) -> Answer;
+
+    fn tickets_descent(ledger: *const u64, number: u32) -> Answer;
+
+    fn tickets_day_total(ledger: *const u64) -> u64;
+
     fn tickets_rewrite(
         record: *const u8,
         record_len: usize,
@@ -11,6 +40,105 @@ extern "C" {
     ) -> Answer;
 
     fn tickets_read_request(request: *const u8, request_len: usize, fields: *mut u64) -> u32;
+}
+
+/// `tickets_fresh`.
+pub fn fresh(accounts: &mut AccountWords, ledger: &mut LedgerWords) {
+    // SAFETY: the arrays have as many words as the call sets, and are borrowed mutably.
+    unsafe { tickets_fresh(accounts.as_mut_ptr(), ledger.as_mut_ptr()) }
+}
+
+/// `tickets_edit`.
+pub fn edit(accounts: &mut AccountWords, edit: &Edit) -> u32 {
+    let Edit { number, name, flags, send, receive, lifetime } = *edit;
+    let (words, length) = (accounts.as_mut_ptr(), name.len());
+    // SAFETY: the accounts have as many words as the call takes, and the name is a slice, valid for
+    // its length, which the accounts do not overlap because they are borrowed mutably.
+    unsafe { tickets_edit(words, number, name.as_ptr(), length, flags, send, receive, lifetime) }
+}
+
+/// `tickets_request`.
+pub fn request(
+    accounts: &mut AccountWords,
+    ledger: &mut LedgerWords,
+    request: &[u8],
+    clock: u32,
+    output: &mut [u8],
+) -> Answer {
+    // SAFETY: the arrays have as many words as the call takes; request and output are slices, valid
+    // for their lengths. What is written is borrowed mutably, so nothing overlaps it.
+    unsafe {
+        tickets_request(
+            accounts.as_mut_ptr(),
+            ledger.as_mut_ptr(),
+            request.as_ptr(),
+            request.len(),
+            clock,
+            output.as_mut_ptr(),
+            output.len(),
+        )
+    }
+}
+
+/// `tickets_descent`.
+pub fn descent(ledger: &LedgerWords, number: u32) -> Answer {
+    // SAFETY: the ledger has as many words as the call reads.
+    unsafe { tickets_descent(ledger.as_ptr(), number) }
+}
+
+/// `tickets_day_total`.
+pub fn day_total(ledger: &LedgerWords) -> u64 {
+    // SAFETY: as above.
+    unsafe { tickets_day_total(ledger.as_ptr()) }
+}
+
+/// The memory of one service, as `tickets_service` has it.
+#[derive(Clone, PartialEq, Eq)]
+#[repr(C)]
+pub struct Service {
+    /// The words of the accounts.
+    pub accounts: AccountWords,
+    /// The words of the ledger.
+    pub ledger: LedgerWords,
+}
+
+impl Service {
+    /// A service whose words are all this one.
+    pub fn filled(word: u64) -> Self {
+        Self { accounts: [word; ACCOUNT_WORDS], ledger: [word; LEDGER_WORDS] }
+    }
+
+    /// A fresh service, which the call makes of words that are not 0.
+    pub fn fresh() -> Self {
+        let mut service = Self::filled(u64::MAX);
+        service.make_fresh();
+        service
+    }
+
+    /// `tickets_service_fresh`.
+    pub fn make_fresh(&mut self) {
+        fresh(&mut self.accounts, &mut self.ledger);
+    }
+
+    /// `tickets_service_edit`.
+    pub fn edit(&mut self, given: &Edit) -> u32 {
+        edit(&mut self.accounts, given)
+    }
+
+    /// `tickets_service_request`.
+    pub fn request(&mut self, given: &[u8], clock: u32, output: &mut [u8]) -> Answer {
+        request(&mut self.accounts, &mut self.ledger, given, clock, output)
+    }
+
+    /// `tickets_service_descent`.
+    pub fn descent(&self, number: u32) -> Answer {
+        descent(&self.ledger, number)
+    }
+
+    /// `tickets_service_day_total`.
+    pub fn day_total(&self) -> u64 {
+        day_total(&self.ledger)
+    }
 }
 
 /// `tickets_rewrite`.

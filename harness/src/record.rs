@@ -1,13 +1,16 @@
 //! Tickets with their reader and writer, and the reader of requests: document 01, sections "Ticket
 //! records" and "Requests".
 
+pub use crate::errors::Error;
+
 /// The fewest bytes that the writer takes as output: those of the longest issued record.
 pub const LONGEST_RECORD: usize = 31;
 
 /// The account numbers of a trail, and zeros after them.
 pub type Trail = [u8; 8];
 
-const NO_TRAIL: Trail = [0; 8];
+/// The trail of a ticket that has none.
+pub const NO_TRAIL: Trail = [0; 8];
 
 /// The ticket maps of the four origins; `BARRED` may be added to each.
 const INITIAL: u16 = 0x0037;
@@ -21,22 +24,6 @@ const OPTIONS: u16 = 1 << 1;
 const PAC_OPTIONS: u16 = 1 << 2;
 const TILL: u16 = 1 << 3;
 
-/// The refusals of this layer, by their names in RFC 4120.
-#[derive(Clone, Copy, Debug, PartialEq, Eq)]
-#[repr(u8)]
-pub enum Error {
-    /// KRB_ERR_RESPONSE_TOO_BIG: the output has under 31 bytes.
-    ResponseTooBig = 52,
-    /// KRB_ERR_GENERIC: unreadable bytes, or a ticket that no bytes give.
-    Generic = 60,
-}
-
-impl Error {
-    pub fn number(self) -> u8 {
-        self as u8
-    }
-}
-
 /// Where a ticket comes from, with the numbers of the tickets that it rests on.
 #[derive(Clone, Copy, Debug, PartialEq, Eq)]
 pub enum Origin {
@@ -44,6 +31,17 @@ pub enum Origin {
     Direct { tgt: u16 },
     SelfIssued { tgt: u16 },
     Delegated { tgt: u16, evidence: u16 },
+}
+
+impl Origin {
+    /// "Back from a delegated ticket goes to its evidence, from direct or self to its TGT."
+    pub fn back(&self) -> Option<u16> {
+        match *self {
+            Origin::Initial => None,
+            Origin::Direct { tgt } | Origin::SelfIssued { tgt } => Some(tgt),
+            Origin::Delegated { evidence, .. } => Some(evidence),
+        }
+    }
 }
 
 /// A ticket. An initial one has service 0. The trail is the first `hops` places of `trail`.
@@ -293,7 +291,7 @@ pub fn read_request(request: &[u8]) -> Result<Request<'_>, Error> {
 #[cfg(test)]
 mod tests {
     use super::*;
-    use crate::samples::{w1, TICKET_0, TICKET_1, TICKET_2};
+    use crate::samples::{counted, w1, w3_with, TICKET_0, TICKET_1, TICKET_2};
 
     const RECORDS: [&[u8]; 3] = [TICKET_0, TICKET_1, TICKET_2];
 
@@ -313,6 +311,47 @@ mod tests {
         let mut output = [0xEE; LONGEST_RECORD - 1];
         assert_eq!(write_ticket(&ticket, &mut output), Err(Error::ResponseTooBig));
         assert_eq!(output, [0xEE; LONGEST_RECORD - 1]);
+    }
+
+    #[test]
+    fn point_14_a_value_that_the_reader_never_gives_is_60_before_52() {
+        let [initial, own, delegated] = RECORDS.map(|record| read_ticket(record).unwrap());
+        let stale = [1, 0, 0, 0, 0, 0, 0, 9];
+        for odd in [
+            Ticket { service: 1, ..initial },
+            Ticket { hops: 1, ..initial },
+            Ticket { trail: stale, ..own },
+            Ticket { hops: 0, ..delegated },
+            Ticket { hops: 0, trail: NO_TRAIL, ..delegated },
+            Ticket { hops: 9, ..delegated },
+            Ticket { hops: 255, ..delegated },
+            Ticket { trail: stale, ..delegated },
+        ] {
+            let mut output = [0xEE; LONGEST_RECORD];
+            assert_eq!(write_ticket(&odd, &mut output), Err(Error::Generic));
+            assert_eq!(write_ticket(&odd, &mut []), Err(Error::Generic));
+            assert_eq!(output, [0xEE; LONGEST_RECORD]);
+        }
+    }
+
+    #[test]
+    fn point_15_bytes_past_the_record_stay_as_they_were() {
+        let ticket = read_ticket(RECORDS[1]).unwrap();
+        let mut output = [0xEE; LONGEST_RECORD];
+        assert_eq!(write_ticket(&ticket, &mut output), Ok(20));
+        assert_eq!(output[20..], [0xEE; LONGEST_RECORD - 20]);
+    }
+
+    #[test]
+    fn points_20_and_22_missing_and_left_over_bytes() {
+        let whole = w3_with(&counted(TICKET_1));
+        assert!(read_request(&whole).is_ok());
+        assert!((0..whole.len()).all(|cut| read_request(&whole[..cut]) == Err(Error::Generic)));
+        assert_eq!(read_request(&[&whole[..], &[0]].concat()), Err(Error::Generic));
+        let longer = [TICKET_1, &[0]].concat();
+        for evidence in [&[][..], &longer, &TICKET_1[..TICKET_1.len() - 1]] {
+            assert_eq!(read_request(&w3_with(&counted(evidence))), Err(Error::Generic));
+        }
     }
 
     #[test]

@@ -17,17 +17,19 @@ use Rattle.record.specs.declared.errors.Error.the-variants.{«KRB_ERR_RESPONSE_
 use Rattle.record.specs.declared.errors.Answer.{Answer}
 use Rattle.record.specs.declared.errors.Answer.the-variants.{Accepted, Refused}
 use Rattle.record.specs.declared.ticket.Ticket.{Ticket}
+use Rattle.record.specs.declared.request.Kind.{Kind}
+use Rattle.record.specs.declared.request.Kind.the-variants as kind
 use Rattle.record.specs.declared.request.RequestReading.{RequestReading}
 use Rattle.rules.specs.Accounts.{Table, tableOf}
-use Rattle.rules.specs.Decisions.{refusal, decide}
-use Rattle.rules.specs.declared.decision.Held.{Held}
+use Rattle.rules.specs.Decisions.{refusal, decideKind, decide}
 use Rattle.rules.specs.declared.decision.Moment.{Moment}
 use Rattle.rules.specs.declared.decision.Decision.{Decision}
 use Rattle.rules.proofs.Accounts.{rows-length}
 use Rattle.rules.proofs.Decisions.{room-short}
 use Rattle.rules.proofs.Grants.{Grants}
 use Rattle.ledger.specs.Words.{countOf, ticketsOf, storeTicket}
-use Rattle.ledger.specs.Places.{firstOf}
+use Rattle.ledger.specs.Places.{firstOf, foundFor}
+use Rattle.ledger.specs.declared.call.Found.{Found}
 use Rattle.ledger.specs.Book.{decideRead, decideReading, decideRequest, laid}
 use Rattle.ledger.specs.History.{withGrant, Requested}
 use Rattle.ledger.proofs.Words.{tickets-length}
@@ -43,15 +45,23 @@ module _ (a : Table) (l : List Ticket) (s : List ℕ) (clock room : ℕ) (q : Re
       by Accepted k = absurd (false≢true (sym k))
       by (Refused n) k = refl
 
-  -- a readable one is decided with what the list holds
-  pub request-decided : (h k : Held) (count : ℕ) (d : Decision) → isAccepted (q .answer) ≡ true → h ≡ firstOf l (q .request .tgt .number)
-      → k ≡ firstOf l (q .request .evidence .number) → count ≡ length l
-      → d ≡ decide a s (q .request) h k (record { clock = clock; count = count; room = room }) → d ≡ decideRequest a l s clock room
+  -- a readable one is decided with what its kind looks up
+  found-decides : (k : Kind) (m : Moment) → decideKind k a s (q .request) (foundFor k l (q .request .tgt .number) (q .request .evidence .number) .held)
+      (foundFor k l (q .request .tgt .number) (q .request .evidence .number) .shown) m
+      ≡ decideKind k a s (q .request) (firstOf l (q .request .tgt .number)) (firstOf l (q .request .evidence .number)) m
+  found-decides kind.Initial m = refl
+  found-decides kind.Direct m = refl
+  found-decides kind.S4U2self m = refl
+  found-decides kind.S4U2proxy m = refl
+
+  pub request-decided : (f : Found) (count : ℕ) (d : Decision) → isAccepted (q .answer) ≡ true
+      → f ≡ foundFor (q .request .kind) l (q .request .tgt .number) (q .request .evidence .number) → count ≡ length l
+      → d ≡ decide a s (q .request) (f .held) (f .shown) (record { clock = clock; count = count; room = room }) → d ≡ decideRequest a l s clock room
   unfolding decideRequest
-  request-decided h k count d r eh ek ec ed = rw (sym e) (by (q .answer) r)
+  request-decided f count d r ef ec ed = rw (sym e) (by (q .answer) r)
     where
       by : (r : Answer) → isAccepted r ≡ true → d ≡ decideReading r a l s clock room q
-      by Accepted z = ed ∙ rw (eh, ek, ec)
+      by Accepted z = ed ∙ rw (ef, ec) (found-decides (q .request .kind) (record { clock = clock; count = length l; room = room }))
       by (Refused n) z = absurd (false≢true z)
 
   -- a readable one whose output is too short is refused whatever the list holds

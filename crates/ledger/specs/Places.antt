@@ -7,7 +7,10 @@ use lib.Dec.{ltb, eqb}
 use Rattle.record.specs.TicketRecords.{blankTicket}
 use Rattle.record.specs.declared.ticket.Ticket.{Ticket}
 use Rattle.rules.specs.declared.decision.Held.{Held}
+use Rattle.record.specs.declared.request.Kind.{Kind}
+use Rattle.record.specs.declared.request.Kind.the-variants as kind
 use Rattle.ledger.specs.Words.{ticketAt, countOf}
+use Rattle.ledger.specs.declared.call.Found.{Found}
 
 -- a ticket that is held
 abbrev pub heldTicket : Ticket → Held
@@ -26,6 +29,25 @@ unfoldable pub firstOf : List Ticket → ℕ → Held
 firstOf [] n = notHeld
 firstOf (t ∷ ts) n = cond (eqb (t .number) n) (heldTicket t) (firstOf ts n)
 
+-- ---- What the code looks up for a request of each kind: only what its decision asks for
+abbrev pub foundNone : Found
+foundNone = record { held = notHeld; shown = notHeld }
+
+-- the TGT
+abbrev pub foundOne : List Ticket → ℕ → Found
+foundOne l t = record { held = firstOf l t; shown = notHeld }
+
+-- the TGT and the evidence
+abbrev pub foundBoth : List Ticket → ℕ → ℕ → Found
+foundBoth l t e = record { held = firstOf l t; shown = firstOf l e }
+
+abbrev pub foundFor : Kind → List Ticket → ℕ → ℕ → Found
+foundFor kind.Initial l t e = foundNone
+foundFor kind.Direct l t e = foundOne l t
+foundFor kind.S4U2self l t e = foundOne l t
+foundFor kind.S4U2proxy l t e = foundBoth l t e
+
+-- ---- How the code searches: many places at a time
 -- the ticket at place i has the number
 unfoldable pub hasNumber : List ℕ → ℕ → ℕ → Bool
 hasNumber w number i = eqb (ticketAt w i .number) number

@@ -4,10 +4,12 @@ use crate::count_held;
 use crate::find_from;
 use crate::find_ticket;
 use crate::fresh_ledger;
+use crate::not_held;
 use crate::skip;
 use crate::store_ticket;
 use record::Answer;
 use record::Error;
+use record::Kind;
 use record::Origin;
 use record::Request;
 use record::RequestReading;
@@ -33,6 +35,7 @@ ghost use Rattle.rules.specs.Accounts.{tableOf};
 ghost use Rattle.rules.specs.Edits.{editOf};
 ghost use Rattle.rules.specs.Decisions.{refusal};
 ghost use Rattle.ledger.specs.Words.{ticketsOf, noTickets};
+ghost use Rattle.ledger.specs.Places.{foundNone, foundOne, foundBoth, foundFor};
 ghost use Rattle.ledger.specs.Book.{decideRequest};
 ghost use Rattle.ledger.specs.Descent.{backOf, descent};
 ghost use Rattle.ledger.specs.Calls.{backTo, stepsIn, oneMore, descended};
@@ -83,7 +86,57 @@ fn refuse(answer: Answer) -> Decision
     }
 }
 
-// What a request is answered: read once, its tickets looked up in one pass, and decided. A short output is refused before that.
+// What is held at the numbers of the TGT and of the evidence that a request presents.
+struct Found {
+    held: Held,
+    shown: Held,
+}
+
+// Nothing is looked up.
+fn found_none() -> Found
+    ensures { λ r. ⌜ r ≡ foundNone ⌝ }
+{
+    Found {
+        held: not_held(),
+        shown: not_held(),
+    }
+}
+
+// The TGT alone is looked up.
+fn found_one(words: &LedgerWords, tgt: u16) -> Found
+    ensures { λ r. ⌜ r ≡ foundOne (ticketsOf (now (words .entry))) tgt ⌝ }
+{
+    Found {
+        held: find_ticket(words, tgt),
+        shown: not_held(),
+    }
+}
+
+// The TGT and the evidence are looked up, in one pass over the places that have neither.
+fn found_both(words: &LedgerWords, tgt: u16, evidence: u16) -> Found
+    ensures { λ r. ⌜ r ≡ foundBoth (ticketsOf (now (words .entry))) tgt evidence ⌝ }
+{
+    let n = count_held(words);
+    let from = skip(words, 0, n, tgt, evidence);
+    Found {
+        held: find_from(words, from, n, tgt),
+        shown: find_from(words, from, n, evidence),
+    }
+}
+
+// Looks up what a request of a kind presents.
+fn look_up(words: &LedgerWords, kind: Kind, tgt: u16, evidence: u16) -> Found
+    ensures { λ r. ⌜ r ≡ foundFor kind (ticketsOf (now (words .entry))) tgt evidence ⌝ }
+{
+    match kind {
+        Kind::Initial => found_none(),
+        Kind::Direct => found_one(words, tgt),
+        Kind::S4U2self => found_one(words, tgt),
+        Kind::S4U2proxy => found_both(words, tgt, evidence),
+    }
+}
+
+// What a request is answered: read once, its tickets looked up, and decided. A short output is refused before that.
 fn decide_request(
     accounts: &AccountWords,
     ledger: &LedgerWords,
@@ -104,10 +157,11 @@ fn decide_request(
     let q = reading.request;
     let tgt = q.tgt;
     let evidence = q.evidence;
+    let kind = q.kind;
+    let found = look_up(ledger, kind, tgt.number, evidence.number);
+    let held = found.held;
+    let shown = found.shown;
     let count = count_held(ledger);
-    let from = skip(ledger, 0, count, tgt.number, evidence.number);
-    let held = find_from(ledger, from, count, tgt.number);
-    let shown = find_from(ledger, from, count, evidence.number);
     decide(
         accounts,
         bytes,

@@ -1,0 +1,220 @@
+//! The cases: each a state, a call, and the error number that it has to give.
+
+use crate::scenes::{self, other_client, other_number, Scene, END, NOW, UNKNOWN};
+use crate::sides::{make, Call, Output, Side};
+use crate::stage::{Names, Pair, Size, START};
+use harness::accounts::{Edit, DISABLED};
+use harness::record::LONGEST_RECORD;
+use harness::samples::{counted, w1, w3_with, TICKET_0, TICKET_1, TICKET_2};
+use harness::service::PLACES;
+use harness::words;
+
+/// A call in a state.
+pub struct Case {
+    /// What the table calls it.
+    pub name: String,
+    /// The error number that it has to give, 0 where it is not refused.
+    pub error: u32,
+    /// The state, on both sides.
+    pub pair: Pair,
+    /// The call.
+    pub call: Call,
+}
+
+/// Cases with a heading.
+pub struct Group {
+    /// The heading.
+    pub heading: &'static str,
+    /// The cases.
+    pub cases: Vec<Case>,
+}
+
+/// A delegated record with a trail of eight, and the barred mark.
+const LONGEST: &[u8; LONGEST_RECORD] = b"\x03\xff\x01\x02\x40\x00\x00\x00\x03\x04\x00\x00\x03\xe8\x00\x00\x90\x88\x05\x06\x07\x08\x08\x01\x02\x03\x04\x05\x06\x07\x08";
+
+/// A name with a byte at its end that no name has.
+const BAD_NAME: &[u8] = b"orders-d@";
+
+/// All cases.
+pub fn groups() -> Vec<Group> {
+    let empty = Size { names: Names::Clinic, full: false, tickets: 0 };
+    let full = Size { full: true, tickets: PLACES - 1, ..empty };
+    let ends = Size { names: Names::Ends, ..full };
+    let fronts = Size { names: Names::Fronts, ..full };
+    let service = |size| {
+        [grants(size), of_tgt(size), of_evidence(size), of_names(size), of_end(size), others(size)]
+            .into_iter()
+            .flatten()
+            .collect()
+    };
+    vec![
+        Group { heading: "Records and requests alone", cases: record_layer(empty) },
+        Group { heading: "As few accounts and tickets as the call needs", cases: service(empty) },
+        Group { heading: "64 accounts, 511 tickets", cases: service(full) },
+        Group { heading: "The same, names that differ at the end", cases: alike(ends) },
+        Group { heading: "The same, names that differ at the front", cases: alike(fronts) },
+    ]
+}
+
+/// A case that is not refused.
+fn done(name: &str, (pair, call): (Pair, Call)) -> Case {
+    Case { name: name.to_string(), error: 0, pair, call }
+}
+
+/// A case that is refused.
+fn refused(error: u32, name: &str, (pair, call): (Pair, Call)) -> Case {
+    Case { name: format!("{error}: {name}"), error, pair, call }
+}
+
+/// The record layer's calls, and the loop around all calls.
+fn record_layer(size: Size) -> Vec<Case> {
+    let with = |call| (scenes::bare(size).stage.pair, call);
+    let rewrite = |bytes: &[u8]| with(Call::Rewrite(bytes.to_vec()));
+    let request = |bytes: &[u8]| with(Call::ReadRequest(bytes.to_vec()));
+    let w3 = w3_with(&counted(TICKET_1));
+    vec![
+        done("no call, the loop alone", with(Call::Nothing)),
+        done("record of ticket 0, initial, 17 bytes", rewrite(TICKET_0)),
+        done("record of ticket 1, self, 20 bytes", rewrite(TICKET_1)),
+        done("record of ticket 2, delegated, 24 bytes", rewrite(TICKET_2)),
+        done("longest delegated record, 31 bytes", rewrite(LONGEST)),
+        refused(60, "record of ticket 2 and a byte left over", rewrite(&[TICKET_2, &[0]].concat())),
+        done("request W1, 7 bytes", request(&w1())),
+        done("request W3, 52 bytes", request(&w3)),
+        refused(60, "request W3 with a byte missing", request(&w3[..w3.len() - 1])),
+    ]
+}
+
+/// Every kind of grant.
+fn grants(size: Size) -> Vec<Case> {
+    vec![
+        done("kind 1, initial", scenes::initial(size).call()),
+        done("kind 2, direct", scenes::direct(size).call()),
+        done("kind 3, S4U2self", scenes::self_issued(size).call()),
+        done("kind 4, S4U2proxy, classic route", scenes::classic(size).call()),
+        done("kind 4, S4U2proxy, resource route", scenes::resource(size).call()),
+    ]
+}
+
+/// Refusals of the request, the output and the TGT.
+fn of_tgt(size: Size) -> Vec<Case> {
+    let direct = || scenes::direct(size);
+    let classic = || scenes::classic(size);
+    let mut damaged = classic().asked.bytes();
+    damaged.pop();
+    vec![
+        refused(60, "one byte", scenes::bare(size).with_bytes(vec![0])),
+        refused(60, "kind 4, the last byte missing", scenes::bare(size).with_bytes(damaged)),
+        refused(52, "kind 4, output of 30 bytes", classic().room(LONGEST_RECORD - 1).call()),
+        refused(41, "kind 2, TGT not held", direct().tgt(other_number).call()),
+        refused(41, "kind 2, TGT unequal", direct().tgt(other_client).call()),
+        refused(41, "kind 4, TGT unequal", classic().tgt(other_client).call()),
+        refused(35, "kind 2, TGT is not initial", scenes::direct_for_tgt(size).call()),
+        refused(33, "kind 2, before the TGT's start", direct().at(START - 1).call()),
+        refused(32, "kind 2, at the TGT's end", direct().at(END).call()),
+        refused(18, "kind 2, TGT's client disabled", direct().flags(0, DISABLED).call()),
+    ]
+}
+
+/// Refusals of the evidence.
+fn of_evidence(size: Size) -> Vec<Case> {
+    let classic = || scenes::classic(size);
+    vec![
+        refused(41, "kind 4, evidence not held", classic().evidence(other_number).call()),
+        refused(41, "kind 4, evidence unequal", classic().evidence(other_client).call()),
+        refused(33, "kind 4, before the evidence's start", scenes::later_evidence(size).call()),
+        refused(32, "kind 4, at the evidence's end", scenes::ended_evidence(size).call()),
+        refused(26, "kind 4, evidence of another", scenes::evidence_of_another(size).call()),
+        refused(18, "kind 4, evidence's client disabled", classic().flags(0, DISABLED).call()),
+    ]
+}
+
+/// Refusals of the names.
+fn of_names(size: Size) -> Vec<Case> {
+    let initial = || scenes::initial(size);
+    let direct = || scenes::direct(size);
+    let self_issued = || scenes::self_issued(size);
+    vec![
+        refused(7, "kind 2, service unknown", direct().service(UNKNOWN).call()),
+        refused(7, "kind 2, no service", direct().flags(1, 0).call()),
+        refused(7, "kind 3, Service 1 is no service", self_issued().flags(0, 0).call()),
+        refused(6, "kind 1, user unknown", initial().user(UNKNOWN).call()),
+        refused(6, "kind 3, user unknown", self_issued().user(UNKNOWN).call()),
+        refused(18, "kind 1, user disabled", initial().flags(0, DISABLED).call()),
+        refused(18, "kind 3, user disabled", self_issued().flags(1, DISABLED).call()),
+    ]
+}
+
+/// The last refusals: the hop's, the end's and the ledger's.
+fn of_end(size: Size) -> Vec<Case> {
+    let brim = Size { tickets: PLACES, ..size };
+    vec![
+        refused(13, "kind 4, no route", scenes::no_route(size).call()),
+        refused(61, "kind 4, ninth hop", scenes::nine_steps(size).call()),
+        refused(11, "kind 1, till now", scenes::initial(size).till(NOW).call()),
+        refused(11, "kind 4, till now", scenes::classic(size).till(NOW).call()),
+        refused(29, "kind 1, 512 tickets held", scenes::initial(brim).call()),
+        refused(29, "kind 4, 512 tickets held", scenes::classic(brim).call()),
+    ]
+}
+
+/// The edits of the last account, the descent of the last ticket, and the day total.
+fn others(size: Size) -> Vec<Case> {
+    let Scene { stage, .. } = scenes::initial(size);
+    let kept = stage.edit(0, 0, &[], &[]);
+    let unset = scenes::one_unset(size);
+    let taken = Edit { name: unset.name(0), ..unset.edit(1, 0, &[], &[]) };
+    let chain = scenes::nine_steps(size).stage.pair;
+    let last = chain.second.ledger.len() as u32 - 1;
+    let with = |call| (stage.pair.copy(), call);
+    vec![
+        done("edit, the row as it was", with(Call::Edit(kept))),
+        refused(60, "edit, bad name", with(Call::Edit(Edit { name: BAD_NAME, ..kept }))),
+        refused(12, "edit, another name", with(Call::Edit(Edit { name: UNKNOWN, ..kept }))),
+        refused(8, "edit, name of another", (unset.pair, Call::Edit(taken))),
+        done("descent, nine steps", (chain, Call::Descent(last))),
+        done("day total", with(Call::DayTotal)),
+    ]
+}
+
+/// The calls that look for a name, in a table of names alike.
+fn alike(size: Size) -> Vec<Case> {
+    let initial = scenes::initial(size);
+    let kept = initial.stage.edit(0, 0, &[], &[]);
+    let capitals = kept.name.to_ascii_uppercase();
+    vec![
+        done("kind 1, initial", scenes::initial(size).call()),
+        done("kind 1, initial, in capitals", scenes::initial(size).user(&capitals).call()),
+        done("kind 4, S4U2proxy, classic route", scenes::classic(size).call()),
+        done("kind 4, S4U2proxy, resource route", scenes::resource(size).call()),
+        done("edit, the row as it was", (initial.stage.pair, Call::Edit(kept))),
+    ]
+}
+
+impl Case {
+    /// Makes the call once of both sides, and looks whether all is as it has to be: one answer with
+    /// the case's error number, one output, one state, and the state put back as it was.
+    pub fn check(&self) {
+        let Pair { mut library, mut second } = self.pair.copy();
+        let mut expected = library.clone();
+        let [mut output, mut other] = [Output::marked(), Output::marked()];
+        let said = make(&mut library, &self.call, &mut output);
+        assert_eq!(said, make(&mut second, &self.call, &mut other), "{}", self.name);
+        assert_eq!(said.error, self.error, "{}", self.name);
+        assert_eq!(output, other, "{}", self.name);
+        match &self.call {
+            Call::Request { .. } if said.error == 0 => {
+                let ticket = second.ledger.last().expect("a granted ticket is held");
+                words::store_ticket(&mut expected.ledger, ticket);
+            }
+            Call::Edit(edit) if said.error == 0 => words::store_edit(&mut expected.accounts, edit),
+            _ => {}
+        }
+        assert!(library == expected, "{}: the library's words", self.name);
+        let mut after = Pair { library, second };
+        assert!(after.agrees(), "{}: the states", self.name);
+        after.library.put_back(self.pair.library.count());
+        after.second.put_back(self.pair.second.count());
+        assert!(after.agrees() && after.second == self.pair.second, "{}: put back", self.name);
+    }
+}

@@ -1,0 +1,529 @@
+//! The plain book's notes and the check of lawful descent over them: document 01, sections "The
+//! plain book" and "Lawful descent". The routes are restated here, apart from the decisions.
+
+use std::fmt::Debug;
+use std::rc::Rc;
+
+use crate::accounts::Table;
+use crate::record::{read_request, Error, Kind, Origin, Ticket};
+use crate::service::Service;
+
+/// Flag 2 of an account: barred.
+const BARRED: u8 = 2;
+
+/// The bits that a route of kind 4 looks at: FORWARDABLE on the evidence, CNAME-IN-ADDL-TKT among
+/// the options, resource-based among the PAC options.
+const FORWARDABLE: u32 = 1 << 30;
+const CNAME_IN_ADDL_TKT: u32 = 1 << 17;
+const RESOURCE_BASED: u32 = 1 << 28;
+
+/// Eight hops, and the step from the first ticket to its TGT.
+const MOST_STEPS: usize = 9;
+
+/// A granted ticket; "beside it the book notes the request and the table as it stands".
+#[derive(Clone, Debug, PartialEq, Eq)]
+pub struct Note {
+    pub ticket: Ticket,
+    pub request: Vec<u8>,
+    /// The table of the ticket's moment; notes between two edits share one.
+    pub table: Rc<Table>,
+}
+
+/// The notes of a day, in the order of the grants.
+#[derive(Clone, Debug, Default, PartialEq, Eq)]
+pub struct Book {
+    pub notes: Vec<Note>,
+}
+
+impl Book {
+    /// A book without notes, for a fresh service.
+    pub fn new() -> Book {
+        Book::default()
+    }
+
+    /// Notes a granted ticket with its request and the table of its moment.
+    pub fn note(&mut self, ticket: Ticket, request: &[u8], table: &Table) {
+        let table = match self.notes.last() {
+            Some(last) if *last.table == *table => Rc::clone(&last.table),
+            _ => Rc::new(table.clone()),
+        };
+        self.notes.push(Note { ticket, request: request.to_vec(), table });
+    }
+
+    /// Makes a request of the service, and notes it if it is granted.
+    pub fn request(
+        &mut self,
+        service: &mut Service,
+        request: &[u8],
+        clock: u32,
+        output: &mut [u8],
+    ) -> Result<usize, Error> {
+        let length = service.request(request, clock, output)?;
+        if let Some(&ticket) = service.ledger.last() {
+            self.note(ticket, request, &service.table);
+        }
+        Ok(length)
+    }
+}
+
+/// A clause that a ticket breaks, in words.
+type Broken = &'static str;
+
+/// Checks every clause of "Lawful descent" for every ticket; the answer names the first ticket that
+/// breaks one, and the clause.
+pub fn lawful(notes: &[Note]) -> Result<(), String> {
+    let ledger = Ledger::of(notes);
+    for note in notes {
+        check(&ledger, note)
+            .map_err(|broken| format!("ticket {}: {broken}", note.ticket.number))?;
+    }
+    Ok(())
+}
+
+/// Checks that "the descent call counts the steps to the initial ticket", for every ticket, with
+/// the answers of this descent call.
+pub fn descents<E: Debug>(
+    notes: &[Note],
+    descent: impl Fn(u32) -> Result<u32, E>,
+) -> Result<(), String> {
+    let ledger = Ledger::of(notes);
+    for number in notes.iter().map(|note| note.ticket.number) {
+        let steps = ledger.steps(number).map_err(|broken| format!("ticket {number}: {broken}"))?;
+        let answer = descent(number.into());
+        if !matches!(answer, Ok(counted) if counted == steps) {
+            return Err(format!("ticket {number}: descent gives {answer:?}, not {steps} steps"));
+        }
+    }
+    Ok(())
+}
+
+/// The clause in words, unless it holds.
+fn ensure(condition: bool, broken: Broken) -> Result<(), Broken> {
+    if condition {
+        Ok(())
+    } else {
+        Err(broken)
+    }
+}
+
+/// "A number stands for the first ticket in the ledger that has it": its note, by number.
+struct Ledger<'a>(Vec<Option<&'a Note>>);
+
+impl<'a> Ledger<'a> {
+    /// The ledger of these notes.
+    fn of(notes: &'a [Note]) -> Ledger<'a> {
+        let highest = notes.iter().map(|note| note.ticket.number).max().unwrap_or(0);
+        let mut first = vec![None; usize::from(highest) + 1];
+        for note in notes {
+            first[usize::from(note.ticket.number)].get_or_insert(note);
+        }
+        Ledger(first)
+    }
+
+    /// The first note of a number.
+    fn get(&self, number: u16) -> Option<&'a Note> {
+        self.0.get(usize::from(number)).copied().flatten()
+    }
+
+    /// The ticket and those that its steps back lead to, the initial one last. "Each step's number
+    /// falls", and there are at most nine.
+    fn path(&self, note: &'a Note) -> Result<Vec<&'a Note>, Broken> {
+        let mut path = Vec::with_capacity(MOST_STEPS + 1);
+        path.push(note);
+        let mut ticket = &note.ticket;
+        while let Some(back) = back(ticket) {
+            ensure(path.len() <= MOST_STEPS, "more than nine steps to an initial ticket")?;
+            ensure(back < ticket.number, "a step's number does not fall")?;
+            let next = self.get(back).ok_or("a step leads to a ticket that is not held")?;
+            path.push(next);
+            ticket = &next.ticket;
+        }
+        Ok(path)
+    }
+
+    /// The steps from the first ticket of a number to the initial one; "it is itself zero steps
+    /// back".
+    fn steps(&self, number: u16) -> Result<u32, Broken> {
+        let note = self.get(number).ok_or("the ticket is not held")?;
+        self.path(note).map(|path| path.len() as u32 - 1)
+    }
+}
+
+/// "Back from a delegated ticket goes to its evidence, from direct or self to its TGT."
+fn back(ticket: &Ticket) -> Option<u16> {
+    match ticket.origin {
+        Origin::Delegated { evidence, .. } => Some(evidence),
+        Origin::Direct { tgt } | Origin::SelfIssued { tgt } => Some(tgt),
+        Origin::Initial => None,
+    }
+}
+
+/// Whether the grant of this ticket was a hop.
+fn is_delegated(ticket: &Ticket) -> bool {
+    matches!(ticket.origin, Origin::Delegated { .. })
+}
+
+/// "Along the evidence is from a ticket over its evidence numbers to that first ticket": how many
+/// of the path's tickets these are.
+fn along(path: &[&Note]) -> usize {
+    path.iter().take_while(|note| is_delegated(&note.ticket)).count() + 1
+}
+
+/// The clauses of one ticket, in the order of the section.
+fn check(ledger: &Ledger, note: &Note) -> Result<(), Broken> {
+    let ticket = &note.ticket;
+    let path = ledger.path(note)?;
+    let along = &path[..along(&path)];
+    match ticket.origin {
+        Origin::Initial => {}
+        Origin::Direct { tgt } => {
+            let tgt = check_tgt(ledger, ticket, tgt)?;
+            ensure(tgt.client == ticket.client, "a direct ticket's TGT is another client's")?;
+        }
+        Origin::SelfIssued { tgt } => {
+            let tgt = check_tgt(ledger, ticket, tgt)?;
+            ensure(tgt.client == ticket.service, "a self ticket's TGT is not its service's")?;
+        }
+        Origin::Delegated { tgt, .. } => {
+            let tgt = check_tgt(ledger, ticket, tgt)?;
+            check_evidence(ticket, tgt, &path[1].ticket)?;
+            check_hop(note, tgt, &path[1].ticket)?;
+            check_first(ticket, along)?;
+        }
+    }
+    check_client(ticket, along)?;
+    check_trail(ticket, along)
+}
+
+/// The TGT of a ticket: held, under a lower number, initial, and no earlier in its end.
+fn check_tgt<'a>(ledger: &Ledger<'a>, ticket: &Ticket, tgt: u16) -> Result<&'a Ticket, Broken> {
+    ensure(tgt < ticket.number, "the TGT's number does not fall")?;
+    let tgt = &ledger.get(tgt).ok_or("the TGT is not held")?.ticket;
+    ensure(tgt.origin == Origin::Initial, "the TGT is not initial")?;
+    ensure(ticket.end <= tgt.end, "the end is later than the TGT's")?;
+    Ok(tgt)
+}
+
+/// The evidence of a delegated ticket: not initial, for the TGT's client, and no earlier in its
+/// end.
+fn check_evidence(ticket: &Ticket, tgt: &Ticket, evidence: &Ticket) -> Result<(), Broken> {
+    ensure(evidence.origin != Origin::Initial, "the evidence is initial")?;
+    ensure(tgt.client == evidence.service, "a hop's TGT is not its evidence's service's")?;
+    ensure(ticket.end <= evidence.end, "the end is later than the evidence's")
+}
+
+/// "A hop is permitted if a route of kind 4 held for its request and the table of its moment, both
+/// as the plain book notes them." The request is the one that the ticket answers.
+fn check_hop(note: &Note, tgt: &Ticket, evidence: &Ticket) -> Result<(), Broken> {
+    let request = read_request(&note.request).map_err(|_| "a hop's request is unreadable")?;
+    let Kind::S4u2proxy { tgt: used, evidence: shown, service } = &request.kind else {
+        return Err("a hop's request is not of kind 4");
+    };
+    ensure(used == tgt && shown == evidence, "a hop's request presents other tickets")?;
+    let service_2 = find(&note.table, service);
+    ensure(service_2 == Some(note.ticket.service), "a hop's request names another service")?;
+    ensure(request.options & CNAME_IN_ADDL_TKT != 0, "a hop's request lacks CNAME-IN-ADDL-TKT")?;
+    let route = route(&note.table, used.client, note.ticket.service, request.pac_options, shown);
+    ensure(route, "no route permits a hop")
+}
+
+/// The lowest number of a set account whose name matches.
+fn find(table: &Table, name: &[u8]) -> Option<u8> {
+    (0..).zip(&table.rows).find_map(|(number, row)| {
+        let matches = row.as_ref()?.name().eq_ignore_ascii_case(name);
+        matches.then_some(number)
+    })
+}
+
+/// Whether a route of kind 4 holds: the classic one by Service 1's send set, or the resource one by
+/// Service 2's receive set.
+fn route(table: &Table, service_1: u8, service_2: u8, pac_options: u32, evidence: &Ticket) -> bool {
+    let account = |number: u8| table.rows.get(usize::from(number))?.as_ref();
+    let member = |set: u64, number: u8| number < 64 && set & (1 << number) != 0;
+    let sends = account(service_1).is_some_and(|account| member(account.send, service_2));
+    let receives = account(service_2).is_some_and(|account| member(account.receive, service_1));
+    let classic = sends && evidence.flags & FORWARDABLE != 0;
+    let resource = receives && pac_options & RESOURCE_BASED != 0 && !evidence.barred;
+    classic || resource
+}
+
+/// "A client was barred when a ticket was given if flag 2 stands for it in the table of that
+/// ticket's moment": not so for a hop's client and the first ticket of its evidence.
+fn check_first(ticket: &Ticket, along: &[&Note]) -> Result<(), Broken> {
+    let first = along[along.len() - 1];
+    let row = first.table.rows.get(usize::from(ticket.client)).and_then(Option::as_ref);
+    let barred = row.is_some_and(|account| account.flags & BARRED != 0);
+    ensure(!barred, "a hop for a client that was barred when the first ticket was given")
+}
+
+/// One client along the evidence.
+fn check_client(ticket: &Ticket, along: &[&Note]) -> Result<(), Broken> {
+    let same = along.iter().all(|note| note.ticket.client == ticket.client);
+    ensure(same, "another client along the evidence")
+}
+
+/// "The services passed through are, for a delegated ticket, those of the tickets its evidence
+/// numbers lead back to, the first ticket's first; other tickets have none, and no trail."
+fn check_trail(ticket: &Ticket, along: &[&Note]) -> Result<(), Broken> {
+    if !is_delegated(ticket) {
+        return ensure(ticket.hops == 0, "a trail on a ticket that is not delegated");
+    }
+    let passed = along[1..].iter().rev().map(|note| &note.ticket.service);
+    let trail = ticket.trail.iter().take(ticket.hops.into());
+    ensure(passed.eq(trail), "the trail is not the services passed through")
+}
+
+#[cfg(test)]
+mod tests {
+    use super::*;
+    use crate::fixtures::{edit, kind_1, kind_2, kind_3, kind_4, Day};
+
+    /// The places of the history's tickets.
+    const SELF: usize = 10;
+    const HOP_1: usize = 11;
+    const HOP_2: usize = 12;
+    const HOP_8: usize = 18;
+    const DIRECT: usize = 19;
+    const RESOURCE_HOP: usize = 20;
+
+    /// The services of a chain, accounts 1 to 9.
+    const SERVICES: [&str; 9] = ["s1", "s2", "s3", "s4", "s5", "s6", "s7", "s8", "s9"];
+
+    /// Accounts of which each odd one hops to the next by the classic route and each even one by
+    /// the resource route.
+    fn accounts() -> Day {
+        let mut day = Day::on(Service::fresh());
+        day.set(0, "tech", 0, 0, 0);
+        for (number, name) in (1..).zip(SERVICES) {
+            let odd = number % 2 == 1;
+            let send = if odd { 1 << (number + 1) } else { 0 };
+            let receive = if odd { 1 << (number - 1) } else { 0 };
+            day.set(number, name, 12, send, receive);
+        }
+        day
+    }
+
+    /// The TGTs of the services (0 to 8) and of `tech` (9), a self ticket (10) with eight hops over
+    /// both routes (11 to 18), and a direct ticket (19) with one hop by the resource route (20).
+    fn history() -> Day {
+        let mut day = accounts();
+        let tgts = SERVICES.map(|name| day.grant(&kind_1(name), 1000));
+        let client = day.grant(&kind_1("tech"), 1000);
+        let mut evidence = day.grant(&kind_3(&tgts[0], "tech").till(20000), 1000);
+        for (tgt, service) in tgts.iter().zip(&SERVICES[1..]) {
+            let hop = kind_4(tgt, &evidence, service).pac(RESOURCE_BASED);
+            evidence = day.grant(&hop, 1000);
+        }
+        let direct = day.grant(&kind_2(&client, "s2"), 1000);
+        day.set(0, "tech", 2, 0, 0);
+        day.grant(&kind_4(&tgts[1], &direct, "s3").pac(RESOURCE_BASED), 1000);
+        for (number, name) in (1..).zip(SERVICES) {
+            day.set(number, name, 9, 0, 0);
+        }
+        day
+    }
+
+    /// What is said of the history after this damage.
+    fn damaged(damage: impl Fn(&mut Vec<Note>)) -> String {
+        let Book { mut notes } = history().book;
+        damage(&mut notes);
+        lawful(&notes).unwrap_err()
+    }
+
+    /// What is said of the history after this damage to one ticket.
+    fn damaged_ticket(at: usize, damage: impl Fn(&mut Ticket)) -> String {
+        damaged(|notes| damage(&mut notes[at].ticket))
+    }
+
+    /// What is said of the history after this damage to the origin of one ticket.
+    fn damaged_origin(at: usize, origin: Origin) -> String {
+        damaged_ticket(at, |ticket| ticket.origin = origin)
+    }
+
+    /// The table after one more edit.
+    fn edited(table: &Table, number: u32, name: &str, flags: u32) -> Rc<Table> {
+        let mut table = table.clone();
+        table.edit(&edit(number, name, flags, 0, 0)).unwrap();
+        Rc::new(table)
+    }
+
+    #[test]
+    fn chains_of_eight_hops_are_lawful() {
+        let Day { service, book } = history();
+        assert_eq!(lawful(&book.notes), Ok(()));
+        assert_eq!(descents(&book.notes, |number| service.descent(number)), Ok(()));
+        assert_eq!(service.descent(HOP_8 as u32), Ok(9));
+        assert_eq!(book.notes[HOP_8].ticket.trail, [1, 2, 3, 4, 5, 6, 7, 8]);
+        assert_eq!(book.notes.len(), RESOURCE_HOP + 1);
+        assert!(lawful(&[]).is_ok());
+    }
+
+    #[test]
+    fn notes_between_two_edits_share_their_table() {
+        let notes = history().book.notes;
+        assert!(Rc::ptr_eq(&notes[0].table, &notes[DIRECT].table));
+        assert!(!Rc::ptr_eq(&notes[DIRECT].table, &notes[RESOURCE_HOP].table));
+    }
+
+    #[test]
+    fn a_refused_request_is_not_noted() {
+        let mut day = history();
+        assert_eq!(day.ask(&kind_1("ghost"), 1000), Err(6));
+        assert_eq!(day.book.notes.len(), RESOURCE_HOP + 1);
+    }
+
+    #[test]
+    fn the_steps_back() {
+        let more = damaged(|notes| {
+            let mut ninth = notes[HOP_8].clone();
+            ninth.ticket.number = 30;
+            ninth.ticket.origin = Origin::Delegated { tgt: 8, evidence: HOP_8 as u16 };
+            notes.push(ninth);
+        });
+        assert_eq!(more, "ticket 30: more than nine steps to an initial ticket");
+        for tgt in [SELF as u16, HOP_1 as u16] {
+            let rising = damaged_origin(SELF, Origin::SelfIssued { tgt });
+            assert_eq!(rising, "ticket 10: a step's number does not fall");
+        }
+        let lost = damaged_ticket(0, |ticket| ticket.number = 900);
+        assert_eq!(lost, "ticket 10: a step leads to a ticket that is not held");
+    }
+
+    #[test]
+    fn the_first_ticket_of_a_number_counts() {
+        let twice = damaged(|notes| {
+            let other =
+                Note { ticket: Ticket { number: 0, ..notes[1].ticket }, ..notes[1].clone() };
+            notes.insert(0, other);
+        });
+        assert_eq!(twice, "ticket 10: a self ticket's TGT is not its service's");
+    }
+
+    #[test]
+    fn the_tgt() {
+        let rising = damaged_origin(HOP_1, Origin::Delegated { tgt: 11, evidence: 10 });
+        assert_eq!(rising, "ticket 11: the TGT's number does not fall");
+        let lost = damaged_ticket(1, |ticket| ticket.number = 900);
+        assert_eq!(lost, "ticket 12: the TGT is not held");
+        let not_initial = damaged_origin(DIRECT, Origin::Direct { tgt: 10 });
+        assert_eq!(not_initial, "ticket 19: the TGT is not initial");
+        let other = damaged_origin(DIRECT, Origin::Direct { tgt: 0 });
+        assert_eq!(other, "ticket 19: a direct ticket's TGT is another client's");
+        let other = damaged_origin(SELF, Origin::SelfIssued { tgt: 1 });
+        assert_eq!(other, "ticket 10: a self ticket's TGT is not its service's");
+        let other = damaged_origin(HOP_1, Origin::Delegated { tgt: 1, evidence: 10 });
+        assert_eq!(other, "ticket 11: a hop's TGT is not its evidence's service's");
+    }
+
+    #[test]
+    fn the_evidence_is_not_initial() {
+        let initial = damaged_origin(HOP_1, Origin::Delegated { tgt: 0, evidence: 0 });
+        assert_eq!(initial, "ticket 11: the evidence is initial");
+    }
+
+    #[test]
+    fn the_ends() {
+        for at in [SELF, HOP_1, DIRECT] {
+            let later = damaged_ticket(at, |ticket| ticket.end = 37001);
+            assert_eq!(later, format!("ticket {at}: the end is later than the TGT's"));
+        }
+        let later = damaged_ticket(HOP_1, |ticket| ticket.end = 20001);
+        assert_eq!(later, "ticket 11: the end is later than the evidence's");
+    }
+
+    #[test]
+    fn the_request_of_a_hop() {
+        let unreadable = damaged(|notes| notes[HOP_1].request.push(0));
+        assert_eq!(unreadable, "ticket 11: a hop's request is unreadable");
+        let kind = damaged(|notes| notes[HOP_1].request = notes[SELF].request.clone());
+        assert_eq!(kind, "ticket 11: a hop's request is not of kind 4");
+        for (tgt, evidence) in [(1, SELF), (0, HOP_2)] {
+            let tickets = damaged(|notes| {
+                let hop = kind_4(&notes[tgt].ticket, &notes[evidence].ticket, "s2");
+                notes[HOP_1].request = hop.bytes();
+            });
+            assert_eq!(tickets, "ticket 11: a hop's request presents other tickets");
+        }
+        let service = damaged_ticket(HOP_8, |ticket| ticket.service = 3);
+        assert_eq!(service, "ticket 18: a hop's request names another service");
+    }
+
+    #[test]
+    fn a_hop_needs_its_option_and_a_route_in_the_table_of_its_moment() {
+        // The second byte of the options, which stand after the map and the kind.
+        let option = damaged(|notes| notes[HOP_1].request[4] &= !0x02);
+        assert_eq!(option, "ticket 11: a hop's request lacks CNAME-IN-ADDL-TKT");
+        let classic = damaged(|notes| notes[HOP_1].table = edited(&notes[0].table, 1, "s1", 12));
+        assert_eq!(classic, "ticket 11: no route permits a hop");
+        let resource = damaged(|notes| notes[HOP_2].table = edited(&notes[0].table, 3, "s3", 12));
+        assert_eq!(resource, "ticket 12: no route permits a hop");
+        // The first byte of the PAC options, which stand after the options.
+        let resource = damaged(|notes| notes[RESOURCE_HOP].request[7] &= !0x10);
+        assert_eq!(resource, "ticket 20: no route permits a hop");
+    }
+
+    #[test]
+    fn the_evidence_must_fit_the_route() {
+        let forward = damaged(|notes| {
+            notes[SELF].ticket.flags = 0;
+            let evidence = notes[SELF].ticket;
+            let tgt = notes[0].ticket;
+            notes[HOP_1].request = kind_4(&tgt, &evidence, "s2").bytes();
+        });
+        assert_eq!(forward, "ticket 11: no route permits a hop");
+        let marked = damaged(|notes| {
+            notes[DIRECT].ticket.barred = true;
+            let evidence = notes[DIRECT].ticket;
+            let hop = kind_4(&notes[1].ticket, &evidence, "s3").pac(RESOURCE_BASED);
+            notes[RESOURCE_HOP].request = hop.bytes();
+        });
+        assert_eq!(marked, "ticket 20: no route permits a hop");
+    }
+
+    #[test]
+    fn no_hop_for_a_client_barred_when_the_first_ticket_was_given() {
+        let said = "a hop for a client that was barred when the first ticket was given";
+        for (first, hop) in [(SELF, HOP_1), (DIRECT, RESOURCE_HOP)] {
+            let barred =
+                damaged(|notes| notes[first].table = edited(&notes[0].table, 0, "tech", 2));
+            assert_eq!(barred, format!("ticket {hop}: {said}"));
+        }
+        // Ticket 18 comes first in the list, and its numbers lead back as before.
+        let eighth = damaged(|notes| {
+            notes[SELF].table = edited(&notes[0].table, 0, "tech", 2);
+            notes.swap(HOP_1, HOP_8);
+        });
+        assert_eq!(eighth, format!("ticket 18: {said}"));
+    }
+
+    #[test]
+    fn one_client_along_the_evidence() {
+        let client = damaged_ticket(HOP_8, |ticket| ticket.client = 5);
+        assert_eq!(client, "ticket 18: another client along the evidence");
+    }
+
+    #[test]
+    fn the_trail() {
+        for at in [0, SELF, DIRECT] {
+            let trail = damaged_ticket(at, |ticket| ticket.hops = 1);
+            assert_eq!(trail, format!("ticket {at}: a trail on a ticket that is not delegated"));
+        }
+        let said = "ticket 18: the trail is not the services passed through";
+        assert_eq!(damaged_ticket(HOP_8, |ticket| ticket.trail[0] = 7), said);
+        assert_eq!(damaged_ticket(HOP_8, |ticket| ticket.trail.reverse()), said);
+        assert_eq!(damaged_ticket(HOP_8, |ticket| ticket.hops = 7), said);
+        assert_eq!(damaged_ticket(HOP_8, |ticket| ticket.trail[7] = 9), said);
+        let longer = damaged_ticket(RESOURCE_HOP, |ticket| ticket.hops = 2);
+        assert_eq!(longer, "ticket 20: the trail is not the services passed through");
+    }
+
+    #[test]
+    fn the_descent_call() {
+        let Day { service, book } = history();
+        let one_more = |number| service.descent(number).map(|steps| steps + 1);
+        let said = descents(&book.notes, one_more).unwrap_err();
+        assert_eq!(said, "ticket 0: descent gives Ok(1), not 0 steps");
+        let refused = descents(&book.notes, |_| Err(Error::Modified)).unwrap_err();
+        assert_eq!(refused, "ticket 0: descent gives Err(Modified), not 0 steps");
+    }
+}

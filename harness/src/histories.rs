@@ -1,0 +1,114 @@
+//! Histories: lists of calls, with the words that the first of them meets. They are values, so that
+//! they can be made from a seed, replayed on both sides, shortened and printed.
+
+mod draft;
+mod generator;
+mod invented;
+pub mod odd;
+mod replay;
+mod shrink;
+mod tally;
+
+use crate::accounts::Edit;
+use crate::library::Service;
+use crate::record::read_request;
+use crate::words::{place_at, row_at, PLACE, ROW};
+use std::fmt;
+
+pub use generator::generate;
+pub use replay::run;
+pub use tally::Tally;
+
+/// One call with all its arguments.
+#[derive(Clone, Debug, PartialEq, Eq)]
+pub enum Call {
+    /// An edit of an account.
+    Edit { number: u32, name: Vec<u8>, flags: u32, send: u64, receive: u64, lifetime: u32 },
+    /// A request, the clock reading, and the output's length.
+    Request { request: Vec<u8>, clock: u32, output: usize },
+}
+
+/// A list of calls.
+#[derive(Clone)]
+pub struct History {
+    /// The seed that it was made from.
+    pub seed: u64,
+    /// The words that the first call meets, or a fresh service.
+    pub start: Option<Box<Service>>,
+    /// The calls, in their order.
+    pub calls: Vec<Call>,
+}
+
+impl History {
+    /// The library's service before the first call.
+    pub fn first(&self) -> Service {
+        self.start.as_deref().map_or_else(Service::fresh, Service::clone)
+    }
+}
+
+/// The edit of a call's arguments.
+pub fn edit_of(call: &Call) -> Option<Edit<'_>> {
+    let Call::Edit { number, ref name, flags, send, receive, lifetime } = *call else {
+        return None;
+    };
+    Some(Edit { number, name, flags, send, receive, lifetime })
+}
+
+/// Bytes in hexadecimal.
+struct Hex<'a>(&'a [u8]);
+
+impl fmt::Display for Hex<'_> {
+    fn fmt(&self, f: &mut fmt::Formatter) -> fmt::Result {
+        self.0.iter().try_for_each(|byte| write!(f, "{byte:02x}"))
+    }
+}
+
+impl fmt::Display for Call {
+    fn fmt(&self, f: &mut fmt::Formatter) -> fmt::Result {
+        match self {
+            Call::Edit { number, name, flags, send, receive, lifetime } => {
+                write!(f, "edit {number} \"{}\" flags {flags}", name.escape_ascii())?;
+                write!(f, " send {send:#x} receive {receive:#x} lifetime {lifetime}")
+            }
+            Call::Request { request, clock, output } => {
+                write!(f, "request at {clock}, output of {output}: {}", Hex(request))?;
+                match read_request(request) {
+                    Ok(read) => write!(f, "\n       {}", draft::Readable(&read)),
+                    Err(_) => write!(f, "\n       unreadable"),
+                }
+            }
+        }
+    }
+}
+
+impl fmt::Display for History {
+    fn fmt(&self, f: &mut fmt::Formatter) -> fmt::Result {
+        writeln!(f, "seed {:#x}, {} calls", self.seed, self.calls.len())?;
+        match &self.start {
+            None => writeln!(f, "  from a fresh service")?,
+            Some(words) => print_words(f, words)?,
+        }
+        let mut calls = self.calls.iter().enumerate();
+        calls.try_for_each(|(index, call)| writeln!(f, "  {index:3}  {call}"))
+    }
+}
+
+/// Prints the rows and places whose words are not all 0.
+fn print_words(f: &mut fmt::Formatter, words: &Service) -> fmt::Result {
+    writeln!(f, "  from words, 0 but for: count {:#x}", words.ledger[0])?;
+    for number in 0..words.accounts.len() / ROW {
+        print_some(f, "account", number, &words.accounts[row_at(number)..][..ROW])?;
+    }
+    for place in 0..words.ledger.len() / PLACE {
+        print_some(f, "place", place, &words.ledger[place_at(place)..][..PLACE])?;
+    }
+    Ok(())
+}
+
+/// Prints the words if one of them is not 0.
+fn print_some(f: &mut fmt::Formatter, what: &str, index: usize, words: &[u64]) -> fmt::Result {
+    if words.iter().all(|&word| word == 0) {
+        return Ok(());
+    }
+    writeln!(f, "    {what} {index}: {words:016x?}")
+}

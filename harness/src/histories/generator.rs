@@ -1,0 +1,491 @@
+//! Makes a history from a seed. Calls are mostly such as the service at hand would grant, so that
+//! deep states are reached; one choice in so many is made to be refused, or is odd.
+
+use super::draft::{record, Draft};
+use super::{edit_of, invented, odd, Call, History};
+use crate::accounts::{Account, BARRED, DISABLED, SERVICE, TRUSTED};
+use crate::decisions::{
+    classic_route, resource_route, CNAME_IN_ADDL_TKT, FORWARDABLE, RESOURCE_BASED,
+};
+use crate::random::Random;
+use crate::record::{Origin, Ticket};
+use crate::service::Service;
+use crate::words;
+
+/// Names that new accounts take. Some differ from each other in the bit of the letter case alone,
+/// without being letters.
+const NAMES: [&str; 16] = [
+    "tech", "web", "store", "a", "a[", "a{", "b^", "b~", "!", "c\\", "c|", "Zz", "d]", "d}", "e`",
+    "e_",
+];
+
+/// The kinds of requests, each as often as it is asked for.
+const KINDS: [u8; 12] = [1, 1, 2, 2, 3, 3, 4, 4, 4, 4, 4, 4];
+
+/// The map bits that each kind needs, and those that it may have besides.
+const MAPS: [(u16, u16); 4] = [(0x41, 0x0A), (0x91, 0x0A), (0x51, 0x0A), (0xB3, 0x0C)];
+
+/// Lifetimes of accounts, each as often as it is given.
+const LIFETIMES: [u32; 12] =
+    [36_000, 36_000, 36_000, 36_000, 90_000, 90_000, 3_600, 600, 60, 1, 0, u32::MAX];
+
+/// Where a clock begins.
+const BEGINNINGS: [u32; 6] = [0, 1_000, 1_000, 1_700_000_000, u32::MAX - 40_000, u32::MAX - 400];
+
+/// What a history is like.
+struct Style {
+    /// The accounts in use are those below this number.
+    accounts: usize,
+    /// One call in so many is an edit.
+    edits: usize,
+    /// One choice in so many is odd.
+    odd: usize,
+    /// The clock goes on by less than this at each call.
+    step: usize,
+    /// How many calls there are after the first edits.
+    calls: usize,
+    /// Whether accounts are mostly services that send to and receive from each other.
+    open: bool,
+}
+
+impl Style {
+    /// A style; one in five is long enough to fill the ledger.
+    fn new(random: &mut Random) -> Self {
+        let long = random.once_in(5);
+        Self {
+            accounts: random.pick(&[3, 5, 8, 16, 64]),
+            edits: if long { random.pick(&[20, 60]) } else { random.pick(&[3, 6, 12, 40]) },
+            odd: if long { random.pick(&[40, 120]) } else { random.pick(&[6, 15, 40]) },
+            step: random.pick(&[1, 2, 10, 100]),
+            calls: if long { 800 + random.below(500) } else { 30 + random.below(300) },
+            open: long || !random.once_in(3),
+        }
+    }
+}
+
+/// A history in the making.
+struct Generator {
+    random: Random,
+    style: Style,
+    /// The second implementation's service after the calls made so far.
+    service: Service,
+    /// The clock, from which single readings may stray.
+    now: u32,
+    /// The calls made so far.
+    calls: Vec<Call>,
+}
+
+/// The history of a seed.
+pub fn generate(seed: u64) -> History {
+    let mut random = Random(seed);
+    let style = Style::new(&mut random);
+    let now = random.pick(&BEGINNINGS);
+    let service = Service::fresh();
+    let mut generator = Generator { random, style, service, now, calls: Vec::new() };
+    if !generator.random.once_in(3) {
+        generator.first_edits();
+        generator.go_on(generator.style.calls);
+        return History { seed, start: None, calls: generator.calls };
+    }
+    let start = generator.other_start();
+    generator.service = words::service(&start.accounts, &start.ledger);
+    generator.calls.clear();
+    generator.style.odd = generator.style.odd.min(12);
+    generator.go_on(generator.style.calls.min(250));
+    History { seed, start: Some(start), calls: generator.calls }
+}
+
+impl Generator {
+    /// Words that no calls make, or that calls made and something else changed.
+    fn other_start(&mut self) -> Box<crate::library::Service> {
+        if self.random.once_in(2) {
+            self.now = invented::NOW;
+            self.style.accounts = 64;
+            return invented::words(&mut self.random);
+        }
+        self.first_edits();
+        self.go_on(self.style.calls.min(300));
+        invented::changed(&mut self.random, &self.service)
+    }
+
+    /// Sets most of the accounts in use.
+    fn first_edits(&mut self) {
+        for number in 0..self.style.accounts {
+            if !self.random.once_in(8) {
+                let edit = self.new_account(number);
+                self.make(edit);
+            }
+        }
+    }
+
+    /// Makes so many calls more.
+    fn go_on(&mut self, calls: usize) {
+        for _ in 0..calls {
+            let call =
+                if self.random.once_in(self.style.edits) { self.edit() } else { self.request() };
+            self.make(call);
+        }
+    }
+
+    /// Makes a call of the second implementation, and notes it.
+    fn make(&mut self, call: Call) {
+        if let Some(edit) = edit_of(&call) {
+            // An edit that is refused changes nothing.
+            let _ = self.service.edit(&edit);
+        } else if let Call::Request { request, clock, output } = &call {
+            // So it is with a request.
+            let _ = self.service.request(request, *clock, &mut [0; 64][..*output]);
+        }
+        self.calls.push(call);
+    }
+
+    /// Whether this choice is an odd one.
+    fn odd(&mut self) -> bool {
+        self.random.once_in(self.style.odd)
+    }
+
+    /// The number of an account in use.
+    fn number(&mut self) -> u8 {
+        self.random.below(self.style.accounts) as u8
+    }
+
+    /// An account in use that passes the test, or any.
+    fn number_with(&mut self, test: impl Fn(&Service, u8) -> bool) -> u8 {
+        let passing: Vec<u8> =
+            (0..self.style.accounts as u8).filter(|&n| test(&self.service, n)).collect();
+        if passing.is_empty() || self.odd() {
+            self.number()
+        } else {
+            self.random.pick(&passing)
+        }
+    }
+
+    /// A ticket that passes the test, if one is held; mostly the first of its number.
+    fn ticket_with(&mut self, test: impl Fn(&Service, &Ticket) -> bool) -> Option<Ticket> {
+        let held = self.service.held();
+        let passing: Vec<u16> = (0..held.len() as u16)
+            .filter(|&n| test(&self.service, &held[usize::from(n)]))
+            .collect();
+        if passing.is_empty() {
+            return None;
+        }
+        let ticket = self.service.held()[usize::from(self.random.pick(&passing))];
+        if self.odd() {
+            Some(ticket)
+        } else {
+            self.service.ticket(ticket.number).copied()
+        }
+    }
+
+    // ---- Edits.
+
+    /// A set of accounts.
+    fn set(&mut self) -> u64 {
+        let (a, b, c) = (self.random.word(), self.random.word(), self.random.word());
+        if self.style.open {
+            return self.random.pick(&[u64::MAX, a | b, a, a, a & b, 0]);
+        }
+        self.random.pick(&[0, 0, a & b, a & b & c, a, 1 << (a % 64)])
+    }
+
+    /// Flags of an account that is new.
+    fn flags(&mut self) -> u32 {
+        let usual = if self.style.open { [8, 8, 8, 12, 12] } else { [0, 0, 8, 12, 8] };
+        if self.random.once_in(4) {
+            self.random.below(16) as u32
+        } else {
+            self.random.pick(&usual)
+        }
+    }
+
+    /// The first edit of an account, mostly under a name that no other has.
+    fn new_account(&mut self, number: usize) -> Call {
+        let name = if self.odd() {
+            let other = self.number();
+            self.name_of(other)
+        } else if self.random.once_in(4) {
+            odd::good_name(&mut self.random)
+        } else {
+            let turn = if number < 16 { String::new() } else { (number / 16).to_string() };
+            format!("{}{turn}", NAMES[number % 16]).into_bytes()
+        };
+        Call::Edit {
+            number: number as u32,
+            name,
+            flags: self.flags(),
+            send: self.set(),
+            receive: self.set(),
+            lifetime: self.random.pick(&LIFETIMES),
+        }
+    }
+
+    /// An edit of an account in use.
+    fn edit(&mut self) -> Call {
+        let number = self.number();
+        let mut call = match self.service.table.account(number).copied() {
+            None => self.new_account(number.into()),
+            Some(account) => self.changed_account(number, account),
+        };
+        if self.odd() {
+            let other = self.number();
+            let other = self.service.table.account(other).copied();
+            odd::alter_edit(&mut self.random, &mut call, other.as_ref());
+        }
+        call
+    }
+
+    /// The account with one of its parts changed. A disabled one is mostly enabled.
+    fn changed_account(&mut self, number: u8, mut account: Account) -> Call {
+        match self.random.below(12) {
+            _ if account.flags & DISABLED != 0 && !self.random.once_in(4) => {
+                account.flags ^= DISABLED;
+            }
+            0 => account.flags ^= DISABLED,
+            1 | 2 => account.flags ^= BARRED,
+            3 | 4 => account.flags ^= TRUSTED,
+            5 => account.flags ^= SERVICE,
+            6 => account.send ^= 1 << self.number(),
+            7 => account.receive ^= 1 << self.number(),
+            8 => account.send = self.set(),
+            9 => account.receive = self.set(),
+            10 => account.lifetime = self.random.pick(&LIFETIMES),
+            _ => account.flags = self.flags() as u8,
+        }
+        let Account { flags, send, receive, lifetime, .. } = account;
+        let name = account.name().to_vec();
+        Call::Edit { number: number.into(), name, flags: flags.into(), send, receive, lifetime }
+    }
+
+    // ---- Requests.
+
+    /// The name of an account, its letters in some case; a name of nobody where it is not set.
+    fn name_of(&mut self, number: u8) -> Vec<u8> {
+        match self.service.table.account(number).copied() {
+            Some(account) => odd::letter_case(&mut self.random, account.name()),
+            None => odd::good_name(&mut self.random),
+        }
+    }
+
+    /// The name of an account as a request has it.
+    fn asked_name(&mut self, number: u8) -> Vec<u8> {
+        let name = self.name_of(number);
+        if self.odd() {
+            odd::name(&mut self.random, name)
+        } else {
+            name
+        }
+    }
+
+    /// A request of some kind, with its clock reading and output.
+    fn request(&mut self) -> Call {
+        let mut presented = Vec::new();
+        let mut draft = match self.random.pick(&KINDS) {
+            1 => self.initial(None),
+            2 => self.direct(&mut presented),
+            3 => self.s4u2self(&mut presented),
+            _ => self.s4u2proxy(&mut presented),
+        };
+        let clock = self.clock(&presented);
+        self.options(&mut draft, clock, &presented);
+        if self.odd() {
+            odd::alter_draft(&mut self.random, &mut draft);
+        }
+        let mut request = draft.bytes();
+        if self.odd() {
+            request = odd::bytes(&mut self.random, request);
+        }
+        Call::Request { request, clock, output: self.output() }
+    }
+
+    /// Sets the map, the options, the PAC options and till.
+    fn options(&mut self, draft: &mut Draft, clock: u32, presented: &[Ticket]) {
+        let (needed, besides) = MAPS[usize::from(draft.kind - 1)];
+        draft.map = needed | self.random.word() as u16 & besides;
+        if draft.kind != 4 {
+            draft.options = if self.random.once_in(4) { 0 } else { FORWARDABLE };
+        } else if draft.pac_options != 0 {
+            draft.map |= 0x04;
+        }
+        if self.odd() {
+            let some = self.random.word() as u32;
+            let bits = [FORWARDABLE, CNAME_IN_ADDL_TKT, CNAME_IN_ADDL_TKT, RESOURCE_BASED, 1];
+            draft.options ^= self.random.pick(&bits);
+            draft.pac_options ^= self.random.pick(&[0, RESOURCE_BASED, some]);
+        }
+        draft.till = self.till(clock, presented);
+    }
+
+    /// A wish for the end, mostly none or a later time than the clock's.
+    fn till(&mut self, clock: u32, presented: &[Ticket]) -> u32 {
+        if self.odd() {
+            let edges = [clock.wrapping_sub(1), clock, clock.wrapping_add(1), 1];
+            return self.random.pick(&edges);
+        }
+        let end = presented.first().map_or(0, |tgt| tgt.end);
+        let later = clock.saturating_add(self.random.below(50_000) as u32);
+        self.random.pick(&[0, 0, 0, later, end, end.saturating_sub(1), u32::MAX])
+    }
+
+    /// The output's length.
+    fn output(&mut self) -> usize {
+        let lengths: [usize; 5] =
+            if self.odd() { [0, 1, 30, 30, 17] } else { [31, 31, 32, 40, 64] };
+        self.random.pick(&lengths)
+    }
+
+    /// The clock reading: it goes on a little, and is mostly one at which the presented tickets are
+    /// valid.
+    fn clock(&mut self, presented: &[Ticket]) -> u32 {
+        self.now = self.now.saturating_add(self.random.below(self.style.step) as u32);
+        if !self.odd() {
+            return self.valid_clock(presented);
+        }
+        match self.random.below(8) {
+            0 => self.random.pick(&[0, 1, u32::MAX - 1, u32::MAX]),
+            1 => self.random.word() as u32,
+            2 => {
+                let jump = self.random.below(40_000) as u32;
+                let later = self.random.once_in(2);
+                self.now = if later {
+                    self.now.saturating_add(jump)
+                } else {
+                    self.now.saturating_sub(jump)
+                };
+                self.now
+            }
+            3 => {
+                self.now = self.random.pick(&BEGINNINGS);
+                self.now
+            }
+            _ if presented.is_empty() => self.now,
+            _ => {
+                let Ticket { start, end, .. } = self.random.pick(presented);
+                let edges = [start.wrapping_sub(1), start, end.wrapping_sub(1), end];
+                self.random.pick(&edges)
+            }
+        }
+    }
+
+    /// The time now, or half the time, where the tickets are not valid then, one at which they are.
+    fn valid_clock(&mut self, presented: &[Ticket]) -> u32 {
+        let start = presented.iter().map(|ticket| ticket.start).max().unwrap_or(0);
+        let end = presented.iter().map(|ticket| ticket.end).min().unwrap_or(u32::MAX);
+        if (start..end).contains(&self.now) || start >= end || self.random.once_in(2) {
+            return self.now;
+        }
+        start + self.random.below((end - start) as usize) as u32
+    }
+
+    /// The record of a ticket as it is presented: the ticket itself, or one that is altered.
+    fn present(&mut self, ticket: Ticket, presented: &mut Vec<Ticket>) -> Vec<u8> {
+        presented.push(ticket);
+        let shown = if self.odd() { odd::ticket(&mut self.random, ticket) } else { ticket };
+        match record(&shown) {
+            Some(record) => record,
+            // No record reads as this ticket: what comes nearest is presented.
+            None => odd::nearest_record(&shown),
+        }
+    }
+
+    /// A ticket of any kind, in place of one that fits.
+    fn any_ticket(&mut self) -> Option<Ticket> {
+        self.ticket_with(|_, _| true)
+    }
+
+    /// A TGT whose client passes the test, mostly valid and of an enabled client.
+    fn tgt_with(&mut self, test: impl Fn(&Service, u8) -> bool) -> Option<Ticket> {
+        if self.odd() {
+            return self.any_ticket();
+        }
+        let (now, any_time, disabled) = (self.now, self.odd(), self.odd());
+        self.ticket_with(|service, ticket| {
+            ticket.origin == Origin::Initial
+                && test(service, ticket.client)
+                && (any_time || is_valid(ticket, now))
+                && service.table.is_disabled(ticket.client) == disabled
+        })
+    }
+
+    /// A request for an initial ticket, of this user or some other.
+    fn initial(&mut self, user: Option<u8>) -> Draft {
+        let enabled = |service: &Service, number| !service.table.is_disabled(number);
+        let user = user.unwrap_or_else(|| self.number_with(enabled));
+        Draft { kind: 1, user: self.asked_name(user), ..Draft::default() }
+    }
+
+    /// A request for a direct ticket.
+    fn direct(&mut self, presented: &mut Vec<Ticket>) -> Draft {
+        let Some(tgt) = self.tgt_with(|_, _| true) else {
+            return self.initial(None);
+        };
+        let tgt = self.present(tgt, presented);
+        let service = self.number_with(is_open_service);
+        Draft { kind: 2, tgt, service: self.asked_name(service), ..Draft::default() }
+    }
+
+    /// A request for a self ticket.
+    fn s4u2self(&mut self, presented: &mut Vec<Ticket>) -> Draft {
+        let Some(tgt) = self.tgt_with(|service, client| service.table.is_service(client)) else {
+            return self.initial(None);
+        };
+        let tgt = self.present(tgt, presented);
+        let user = self.number_with(|service, number| !service.table.is_disabled(number));
+        Draft { kind: 3, tgt, user: self.asked_name(user), ..Draft::default() }
+    }
+
+    /// Evidence, half the time with the longest trail that there is.
+    fn evidence(&mut self) -> Option<Ticket> {
+        if self.odd() {
+            return self.any_ticket();
+        }
+        let (now, any_time, disabled) = (self.now, self.odd(), self.odd());
+        let fits = move |service: &Service, ticket: &Ticket| {
+            ticket.origin != Origin::Initial
+                && (any_time || is_valid(ticket, now))
+                && service.table.is_disabled(ticket.client) == disabled
+        };
+        let fitting = self.service.held().iter().filter(|ticket| fits(&self.service, ticket));
+        let most = fitting.map(|ticket| ticket.hops).max().unwrap_or(0);
+        let least = if self.random.once_in(2) { most } else { 0 };
+        self.ticket_with(|service, ticket| fits(service, ticket) && ticket.hops >= least)
+    }
+
+    /// A request for a hop; for a TGT of the evidence's service where there is none yet.
+    fn s4u2proxy(&mut self, presented: &mut Vec<Ticket>) -> Draft {
+        let Some(evidence) = self.evidence() else {
+            return self.direct(presented);
+        };
+        let any = evidence.service > 63 || self.odd();
+        let Some(tgt) = self.tgt_with(|_, client| any || client == evidence.service) else {
+            return self.initial(Some(evidence.service));
+        };
+        let service_1 = tgt.client;
+        let resource = self.random.once_in(2);
+        let pac_options = if resource { RESOURCE_BASED } else { 0 };
+        let service_2 = self.number_with(|service, number| {
+            let table = &service.table;
+            is_open_service(service, number)
+                && (classic_route(table, service_1, number, &evidence)
+                    || resource_route(table, service_1, number, pac_options, &evidence))
+        });
+        Draft {
+            kind: 4,
+            options: CNAME_IN_ADDL_TKT,
+            pac_options,
+            tgt: self.present(tgt, presented),
+            evidence: self.present(evidence, presented),
+            service: self.asked_name(service_2),
+            ..Draft::default()
+        }
+    }
+}
+
+/// Whether a ticket is valid at this time.
+fn is_valid(ticket: &Ticket, now: u32) -> bool {
+    (ticket.start..ticket.end).contains(&now)
+}
+
+/// Whether an account may be named as a service.
+fn is_open_service(service: &Service, number: u8) -> bool {
+    service.table.is_service(number) && !service.table.is_disabled(number)
+}

@@ -1,0 +1,398 @@
+//! How often each answer was reached, by the check that gave it, and each kind of grant.
+
+use super::draft::presented;
+use super::History;
+use crate::accounts::Edit;
+use crate::decisions::{classic_route, resource_route, CNAME_IN_ADDL_TKT, FORWARDABLE};
+use crate::record::{read_request, Kind, Origin, Request, Ticket};
+use crate::service::Service;
+use std::collections::BTreeMap;
+use std::fmt;
+
+/// What has to be reached, in groups.
+const EXPECTED: &[(&str, &[&str])] = &[
+    ("edits", &["new", "again", "60 number", "60 name", "60 flags", "12", "8"]),
+    ("unreadable 60", &["short", "kind", "map", "missing", "left over", "ticket"]),
+    ("output", &["52"]),
+    ("TGT", &["41 not held", "41 unequal", "35", "33", "32", "18"]),
+    ("evidence", &["41 not held", "41 unequal", "33", "32", "26 no service", "26 another", "18"]),
+    ("service", &["7 unknown", "7 disabled", "7 flag 8", "7 Service 1"]),
+    ("user", &["6", "18"]),
+    ("last", &["13 option", "13 route", "61", "11", "29"]),
+    ("initial", &["FORWARDABLE", "mark", "neither"]),
+    ("direct", &["FORWARDABLE", "mark", "neither"]),
+    ("self", &["FORWARDABLE", "mark", "neither"]),
+    ("self by", &["trusted", "untrusted, send set", "untrusted, no send set"]),
+    ("delegated", &["FORWARDABLE", "neither", "both, from other words"]),
+    ("route", &["classic", "resource", "both"]),
+    ("eighth hop", &["classic", "resource", "both"]),
+    ("trail", &["1", "2", "3", "4", "5", "6", "7", "8"]),
+    ("end by", &["lifetime", "4294967295", "TGT", "evidence", "till"]),
+    ("granted at", &["start", "end - 1", "0"]),
+    ("refused at", &["start - 1", "end", "0", "4294967295"]),
+    ("above 63", &["TGT 18", "evidence 26", "evidence 18"]),
+    ("letter case", &["as set", "other"]),
+    ("start", &["fresh", "other words", "count above 512", "number twice", "name twice"]),
+    ("descent", &["0", "1", "2", "3", "4", "5", "6", "7", "8", "9", "more", "41"]),
+];
+
+/// How often each of them has to be reached.
+const LEAST: u64 = 100;
+
+/// The counts.
+#[derive(Default)]
+pub struct Tally {
+    /// Edits and requests.
+    pub calls: u64,
+    /// Grants and stored edits among them.
+    pub granted: u64,
+    counts: BTreeMap<(&'static str, &'static str), u64>,
+}
+
+impl Tally {
+    /// Counts one more.
+    fn add(&mut self, group: &'static str, name: &'static str) {
+        *self.counts.entry((group, name)).or_default() += 1;
+    }
+
+    /// Adds the counts of another.
+    pub fn join(&mut self, other: Tally) {
+        self.calls += other.calls;
+        self.granted += other.granted;
+        for (key, count) in other.counts {
+            *self.counts.entry(key).or_default() += count;
+        }
+    }
+
+    /// What was reached too seldom.
+    pub fn missing(&self) -> Vec<String> {
+        let all =
+            EXPECTED.iter().flat_map(|(group, names)| names.iter().map(move |n| (*group, *n)));
+        let seldom = all.filter(|key| self.counts.get(key).copied().unwrap_or(0) < LEAST);
+        seldom.map(|(group, name)| format!("{group}: {name}")).collect()
+    }
+
+    /// A history begins.
+    pub(super) fn begins(&mut self, history: &History, service: &Service) {
+        let Some(words) = &history.start else {
+            return self.add("start", "fresh");
+        };
+        self.add("start", "other words");
+        if words.ledger[0] > 512 {
+            self.add("start", "count above 512");
+        }
+        let first = |ticket: &Ticket| service.ticket(ticket.number);
+        if service
+            .ledger
+            .iter()
+            .any(|ticket| !first(ticket).is_some_and(|t| std::ptr::eq(t, ticket)))
+        {
+            self.add("start", "number twice");
+        }
+        let rows = (0..).zip(&service.table.rows);
+        let mut names = rows.filter_map(|(number, row)| Some((number, row.as_ref()?.name())));
+        if names.any(|(number, name)| service.table.find(name) != Some(number)) {
+            self.add("start", "name twice");
+        }
+    }
+
+    /// A descent call was answered.
+    pub(super) fn descends(&mut self, steps: Option<u32>) {
+        let names = ["0", "1", "2", "3", "4", "5", "6", "7", "8", "9"];
+        let name = steps.map_or("41", |steps| names.get(steps as usize).copied().unwrap_or("more"));
+        self.add("descent", name);
+    }
+
+    /// An edit was answered; `known` says whether its account was set before.
+    pub(super) fn edited(&mut self, edit: &Edit, known: bool, error: u32) {
+        self.calls += 1;
+        self.granted += u64::from(error == 0);
+        let name = match error {
+            0 if known => "again",
+            0 => "new",
+            12 => "12",
+            8 => "8",
+            _ if edit.number > 63 => "60 number",
+            _ if edit.flags > 15 => "60 flags",
+            _ => "60 name",
+        };
+        self.add("edits", name);
+    }
+
+    /// A request was answered. The service is the one after the call: a refusal leaves it as it
+    /// was, and a grant leaves its accounts.
+    pub(super) fn requested(&mut self, service: &Service, bytes: &[u8], clock: u32, error: u32) {
+        self.calls += 1;
+        match read_request(bytes) {
+            Err(_) => self.add("unreadable 60", unreadable(bytes)),
+            Ok(request) if error == 0 => self.grants(service, &request),
+            Ok(request) => {
+                let refusal = Refusal { service, request: &request, clock };
+                let (group, name) = refusal.reason(error);
+                self.add(group, name);
+                refusal.edges(error).for_each(|name| self.add("refused at", name));
+                if let Some(name) = refusal.above_63(group, error) {
+                    self.add("above 63", name);
+                }
+            }
+        }
+    }
+
+    /// A request was granted: its ticket is the ledger's last.
+    fn grants(&mut self, service: &Service, request: &Request) {
+        self.granted += 1;
+        let ticket = service.ledger.last().expect("a grant is in the ledger");
+        let (group, name) = issued(ticket);
+        self.add(group, name);
+        self.add("end by", end_by(request, ticket));
+        self.count_clock(request, ticket.start);
+        self.count_name(service, request, ticket);
+        if let Origin::SelfIssued { .. } = ticket.origin {
+            self.add("self by", self_by(service, ticket.service));
+        }
+        if let Kind::S4u2proxy { tgt, evidence, .. } = &request.kind {
+            let trails = ["", "1", "2", "3", "4", "5", "6", "7", "8"];
+            self.add("trail", trails[usize::from(ticket.hops)]);
+            let route = route(service, request, tgt.client, ticket.service, evidence);
+            self.add("route", route);
+            if ticket.hops == 8 {
+                self.add("eighth hop", route);
+            }
+        }
+    }
+
+    /// Where a granted request's clock stood in the windows of its tickets.
+    fn count_clock(&mut self, request: &Request, now: u32) {
+        let (tgt, evidence) = presented(request);
+        for ticket in tgt.into_iter().chain(evidence) {
+            if now == ticket.start {
+                self.add("granted at", "start");
+            }
+            if now == ticket.end - 1 {
+                self.add("granted at", "end - 1");
+            }
+        }
+        if now == 0 {
+            self.add("granted at", "0");
+        }
+    }
+
+    /// Whether the name of a granted request was written as the account's.
+    fn count_name(&mut self, service: &Service, request: &Request, ticket: &Ticket) {
+        let (number, name) = match request.kind {
+            Kind::Initial { user } | Kind::S4u2self { user, .. } => (ticket.client, user),
+            Kind::Direct { service, .. } | Kind::S4u2proxy { service, .. } => {
+                (ticket.service, service)
+            }
+        };
+        let account = service.table.account(number).expect("a granted name is an account's");
+        self.add("letter case", if account.name() == name { "as set" } else { "other" });
+    }
+}
+
+impl fmt::Display for Tally {
+    fn fmt(&self, f: &mut fmt::Formatter) -> fmt::Result {
+        writeln!(f, "{} calls, {} granted", self.calls, self.granted)?;
+        for (group, names) in EXPECTED {
+            let count = |name| self.counts.get(&(*group, name)).copied().unwrap_or(0);
+            let parts = names.iter().map(|name| format!("{name}: {}", count(name)));
+            writeln!(f, "  {group:13} | {}", parts.collect::<Vec<_>>().join(" | "))?;
+        }
+        Ok(())
+    }
+}
+
+/// Why a request is unreadable.
+fn unreadable(request: &[u8]) -> &'static str {
+    let Some(&[high, low, kind]) = request.first_chunk() else {
+        return "short";
+    };
+    let (needed, allowed) = match kind {
+        1 => (0x41, 0x4B),
+        2 => (0x91, 0x9B),
+        3 => (0x51, 0x5B),
+        4 => (0xB3, 0xBF),
+        _ => return "kind",
+    };
+    let map = u16::from_be_bytes([high, low]);
+    if map & needed != needed || map & !allowed != 0 {
+        return "map";
+    }
+    let mut rest = &request[3..];
+    for bit in (1..8).filter(|bit| map >> bit & 1 == 1) {
+        let counted = rest.first().map_or(0, |&count| usize::from(count));
+        let Some(further) = rest.get(if bit < 4 { 4 } else { 1 + counted }..) else {
+            return "missing";
+        };
+        rest = further;
+    }
+    if rest.is_empty() {
+        "ticket"
+    } else {
+        "left over"
+    }
+}
+
+/// The kind of a granted ticket, and what it carries.
+fn issued(ticket: &Ticket) -> (&'static str, &'static str) {
+    let group = match ticket.origin {
+        Origin::Initial => "initial",
+        Origin::Direct { .. } => "direct",
+        Origin::SelfIssued { .. } => "self",
+        Origin::Delegated { .. } => "delegated",
+    };
+    let name = match (ticket.flags & FORWARDABLE != 0, ticket.barred) {
+        (true, true) => "both, from other words",
+        (true, false) => "FORWARDABLE",
+        (false, true) => "mark",
+        (false, false) => "neither",
+    };
+    (group, name)
+}
+
+/// What gave a ticket its end; the first of the bounds that it equals.
+fn end_by(request: &Request, ticket: &Ticket) -> &'static str {
+    let (tgt, evidence) = presented(request);
+    let ends_with = |other: Option<&Ticket>| other.is_some_and(|other| other.end == ticket.end);
+    if ends_with(tgt) {
+        "TGT"
+    } else if ends_with(evidence) {
+        "evidence"
+    } else if request.till == ticket.end {
+        "till"
+    } else if ticket.end == u32::MAX {
+        "4294967295"
+    } else {
+        "lifetime"
+    }
+}
+
+/// By what a self ticket's FORWARDABLE goes.
+fn self_by(service: &Service, service_1: u8) -> &'static str {
+    if service.table.is_trusted(service_1) {
+        "trusted"
+    } else if service.table.sends_to_none(service_1) {
+        "untrusted, no send set"
+    } else {
+        "untrusted, send set"
+    }
+}
+
+/// Which routes held for a hop.
+fn route(
+    service: &Service,
+    request: &Request,
+    service_1: u8,
+    service_2: u8,
+    evidence: &Ticket,
+) -> &'static str {
+    let table = &service.table;
+    let classic = classic_route(table, service_1, service_2, evidence);
+    let resource = resource_route(table, service_1, service_2, request.pac_options, evidence);
+    match (classic, resource) {
+        (true, true) => "both",
+        (true, false) => "classic",
+        _ => "resource",
+    }
+}
+
+/// A refused request that reads, and the service that refused it.
+struct Refusal<'a> {
+    service: &'a Service,
+    request: &'a Request<'a>,
+    clock: u32,
+}
+
+impl Refusal<'_> {
+    /// The check that gave this number.
+    fn reason(&self, error: u32) -> (&'static str, &'static str) {
+        match error {
+            41 => self.not_as_held(),
+            33 => (self.by(|ticket| self.clock < ticket.start), "33"),
+            32 => (self.by(|ticket| self.clock >= ticket.end), "32"),
+            18 => self.disabled(),
+            26 => self.other_service(),
+            7 => ("service", self.no_service()),
+            13 if self.request.options & CNAME_IN_ADDL_TKT == 0 => ("last", "13 option"),
+            52 => ("output", "52"),
+            35 => ("TGT", "35"),
+            6 => ("user", "6"),
+            13 => ("last", "13 route"),
+            61 => ("last", "61"),
+            11 => ("last", "11"),
+            29 => ("last", "29"),
+            _ => ("last", "another number"),
+        }
+    }
+
+    /// Which ticket fails a test, the TGT first.
+    fn by(&self, fails: impl Fn(&Ticket) -> bool) -> &'static str {
+        match presented(self.request) {
+            (Some(tgt), _) if fails(tgt) => "TGT",
+            _ => "evidence",
+        }
+    }
+
+    /// The edges at which the clock stood.
+    fn edges(&self, error: u32) -> impl Iterator<Item = &'static str> {
+        let (tgt, evidence) = presented(self.request);
+        let mut tickets = tgt.into_iter().chain(evidence);
+        let early = error == 33 && tickets.clone().any(|t| t.start.wrapping_sub(1) == self.clock);
+        let late = error == 32 && tickets.any(|t| t.end == self.clock);
+        let zero = self.clock == 0;
+        let last = self.clock == u32::MAX;
+        let edges = [(early, "start - 1"), (late, "end"), (zero, "0"), (last, "4294967295")];
+        edges.into_iter().filter_map(|(stood, name)| stood.then_some(name))
+    }
+
+    /// The account above 63 that a refusal of this group was for.
+    fn above_63(&self, group: &str, error: u32) -> Option<&'static str> {
+        let (tgt, evidence) = presented(self.request);
+        match (group, error) {
+            ("TGT", 18) if tgt?.client > 63 => Some("TGT 18"),
+            ("evidence", 26) if evidence?.service > 63 => Some("evidence 26"),
+            ("evidence", 18) if evidence?.client > 63 => Some("evidence 18"),
+            _ => None,
+        }
+    }
+
+    /// The ticket that is not held, or not as it is held.
+    fn not_as_held(&self) -> (&'static str, &'static str) {
+        let held = |ticket: &Ticket| self.service.ticket(ticket.number);
+        let which = self.by(|ticket| held(ticket) != Some(ticket));
+        let (tgt, evidence) = presented(self.request);
+        let ticket = if which == "TGT" { tgt } else { evidence };
+        let is_held = ticket.is_some_and(|ticket| held(ticket).is_some());
+        (which, if is_held { "41 unequal" } else { "41 not held" })
+    }
+
+    /// Whose account is disabled.
+    fn disabled(&self) -> (&'static str, &'static str) {
+        let is_disabled = |ticket: &Ticket| self.service.table.is_disabled(ticket.client);
+        match (self.by(is_disabled), &self.request.kind) {
+            ("TGT", _) => ("TGT", "18"),
+            (_, Kind::S4u2proxy { .. }) => ("evidence", "18"),
+            _ => ("user", "18"),
+        }
+    }
+
+    /// Why the evidence's service is not Service 1.
+    fn other_service(&self) -> (&'static str, &'static str) {
+        let (_, evidence) = presented(self.request);
+        let initial = evidence.is_some_and(|ticket| ticket.origin == Origin::Initial);
+        ("evidence", if initial { "26 no service" } else { "26 another" })
+    }
+
+    /// Why the named service, or Service 1 in kind 3, is none.
+    fn no_service(&self) -> &'static str {
+        let (Kind::Direct { service, .. } | Kind::S4u2proxy { service, .. }) = self.request.kind
+        else {
+            return "7 Service 1";
+        };
+        match self.service.table.find(service) {
+            None => "7 unknown",
+            Some(number) if self.service.table.is_disabled(number) => "7 disabled",
+            Some(_) => "7 flag 8",
+        }
+    }
+}

@@ -1,0 +1,202 @@
+//! The words that a caller lends: docs/ARCHITECTURE.md, "The accounts' words" and "The ledger's
+//! words". Any words stand for some service; what a call stores are exactly the words given here.
+
+use crate::accounts::{Account, Edit, Name, Table, ACCOUNTS, LONGEST_NAME};
+use crate::record::{Origin, Ticket};
+use crate::service::{Service, PLACES};
+
+/// The words of an account.
+pub const ROW: usize = 6;
+
+/// The words of a ticket.
+pub const PLACE: usize = 4;
+
+/// How many words the accounts have, and how many the ledger has.
+pub const ACCOUNT_WORDS: usize = ROW * ACCOUNTS;
+pub const LEDGER_WORDS: usize = 1 + PLACE * PLACES;
+
+/// The words of all accounts.
+pub type AccountWords = [u64; ACCOUNT_WORDS];
+
+/// The words of the ledger: the stored count, and those of its places.
+pub type LedgerWords = [u64; LEDGER_WORDS];
+
+/// The tags of a ticket's origin; every other one is that of a delegated ticket too.
+const INITIAL: u8 = 0;
+const DIRECT: u8 = 1;
+const SELF: u8 = 2;
+const DELEGATED: u8 = 3;
+
+/// The stored mark of a barred ticket; every other one is that of a ticket without the mark.
+const MARK: u8 = 1;
+
+/// The service that the words stand for.
+pub fn service(accounts: &AccountWords, ledger: &LedgerWords) -> Service {
+    Service { table: table(accounts), ledger: tickets(ledger) }
+}
+
+/// The table that the words stand for.
+pub fn table(accounts: &AccountWords) -> Table {
+    Table { rows: std::array::from_fn(|number| account(&accounts[row_at(number)..][..ROW])) }
+}
+
+/// The tickets that the words stand for.
+pub fn tickets(ledger: &LedgerWords) -> Vec<Ticket> {
+    (0..held(ledger)).map(|place| ticket(&ledger[place_at(place)..][..PLACE])).collect()
+}
+
+/// How many tickets are held: the stored count, or 512 if it is above.
+pub fn held(ledger: &LedgerWords) -> usize {
+    ledger[0].min(PLACES as u64) as usize
+}
+
+/// Where the words of an account start.
+pub fn row_at(number: usize) -> usize {
+    ROW * number
+}
+
+/// Where the words of a place start.
+pub fn place_at(place: usize) -> usize {
+    1 + PLACE * place
+}
+
+/// The account of six words; it is set where the stored length is 1 to 24.
+fn account(words: &[u64]) -> Option<Account> {
+    let mut bytes = [0; LONGEST_NAME];
+    for (chunk, word) in bytes.chunks_exact_mut(8).zip(words) {
+        chunk.copy_from_slice(&word.to_le_bytes());
+    }
+    let length = usize::from(words[3] as u8);
+    Some(Account {
+        name: Name::new(bytes.get(..length)?)?,
+        flags: (words[3] >> 8) as u8,
+        send: words[4],
+        receive: words[5],
+        lifetime: (words[3] >> 32) as u32,
+    })
+}
+
+/// The words of an account that an edit sets.
+pub fn row_words(account: &Account) -> [u64; ROW] {
+    let mut bytes = [0; LONGEST_NAME];
+    bytes[..account.name().len()].copy_from_slice(account.name());
+    let name = |at: usize| (0..8).fold(0, |word, i| word | u64::from(bytes[at + i]) << (8 * i));
+    let length = account.name().len() as u64;
+    let details = length | u64::from(account.flags) << 8 | u64::from(account.lifetime) << 32;
+    [name(0), name(8), name(16), details, account.send, account.receive]
+}
+
+/// The ticket of four words.
+fn ticket(words: &[u64]) -> Ticket {
+    let tgt = (words[2] >> 32) as u16;
+    let evidence = (words[2] >> 48) as u16;
+    Ticket {
+        number: words[0] as u16,
+        client: (words[0] >> 16) as u8,
+        service: (words[0] >> 24) as u8,
+        flags: (words[0] >> 32) as u32,
+        start: words[1] as u32,
+        end: (words[1] >> 32) as u32,
+        origin: match words[2] as u8 {
+            INITIAL => Origin::Initial,
+            DIRECT => Origin::Direct { tgt },
+            SELF => Origin::SelfIssued { tgt },
+            _ => Origin::Delegated { tgt, evidence },
+        },
+        barred: (words[2] >> 8) as u8 == MARK,
+        hops: (words[2] >> 16) as u8,
+        trail: words[3].to_le_bytes(),
+    }
+}
+
+/// The words of a ticket that a grant stores.
+pub fn ticket_words(ticket: &Ticket) -> [u64; PLACE] {
+    let (tag, tgt, evidence) = match ticket.origin {
+        Origin::Initial => (INITIAL, 0, 0),
+        Origin::Direct { tgt } => (DIRECT, tgt, 0),
+        Origin::SelfIssued { tgt } => (SELF, tgt, 0),
+        Origin::Delegated { tgt, evidence } => (DELEGATED, tgt, evidence),
+    };
+    let mark = if ticket.barred { MARK } else { 0 };
+    [
+        u64::from(ticket.number)
+            | u64::from(ticket.client) << 16
+            | u64::from(ticket.service) << 24
+            | u64::from(ticket.flags) << 32,
+        u64::from(ticket.start) | u64::from(ticket.end) << 32,
+        u64::from(tag)
+            | u64::from(mark) << 8
+            | u64::from(ticket.hops) << 16
+            | u64::from(tgt) << 32
+            | u64::from(evidence) << 48,
+        u64::from_le_bytes(ticket.trail),
+    ]
+}
+
+/// Stores an edit that is accepted: the words of its account change, and no others.
+pub fn store_edit(accounts: &mut AccountWords, edit: &Edit) {
+    let Edit { number, name, flags, send, receive, lifetime } = *edit;
+    let name = Name::new(name).expect("an accepted edit has a good name");
+    let account = Account { name, flags: flags as u8, send, receive, lifetime };
+    store_account(accounts, number as usize, &account);
+}
+
+/// Sets the words of an account.
+pub fn store_account(accounts: &mut AccountWords, number: usize, account: &Account) {
+    accounts[row_at(number)..][..ROW].copy_from_slice(&row_words(account));
+}
+
+/// Stores a granted ticket: the words of the first place that is not held change, the count becomes
+/// that place's number and one, and no other word changes.
+pub fn store_ticket(ledger: &mut LedgerWords, ticket: &Ticket) {
+    let place = held(ledger);
+    ledger[place_at(place)..][..PLACE].copy_from_slice(&ticket_words(ticket));
+    ledger[0] = place as u64 + 1;
+}
+
+#[cfg(test)]
+mod tests {
+    use super::*;
+    use crate::record::read_ticket;
+    use crate::samples::{TICKET_0, TICKET_2};
+
+    #[test]
+    fn a_row_is_laid_out_as_documented() {
+        let name = Name::new(b"web-server").unwrap();
+        let account =
+            Account { name, flags: 12, send: 0x4, receive: u64::MAX, lifetime: 0x0102_0304 };
+        let words = row_words(&account);
+        let bytes: Vec<u8> = words.iter().flat_map(|word| word.to_le_bytes()).collect();
+        assert_eq!(&bytes[..24], b"web-server\0\0\0\0\0\0\0\0\0\0\0\0\0\0");
+        assert_eq!(&bytes[24..32], [10, 12, 0, 0, 4, 3, 2, 1]);
+        assert_eq!(words[4..], [4, u64::MAX]);
+        assert_eq!(super::account(&words), Some(account));
+    }
+
+    #[test]
+    fn a_row_is_set_where_its_length_is_1_to_24() {
+        for length in 0..=u8::MAX {
+            let words = [!0, !0, !0, length.into(), !0, !0];
+            assert_eq!(account(&words).is_some(), (1..=24).contains(&length), "{length}");
+        }
+    }
+
+    #[test]
+    fn a_ticket_is_laid_out_as_documented() {
+        let words = ticket_words(&read_ticket(TICKET_2).unwrap());
+        assert_eq!(words, [0x4000_0000_0200_0002, 0x0000_9088_0000_03fc, 0x0001_0000_0001_0003, 1]);
+        for record in [TICKET_0, TICKET_2] {
+            let ticket = read_ticket(record).unwrap();
+            assert_eq!(super::ticket(&ticket_words(&ticket)), ticket);
+        }
+    }
+
+    #[test]
+    fn a_count_above_512_is_read_as_512() {
+        let mut ledger = [0; LEDGER_WORDS];
+        for (count, read) in [(0, 0), (511, 511), (512, 512), (513, 512), (u64::MAX, 512)] {
+            ledger[0] = count;
+            assert_eq!(tickets(&ledger).len(), read);
+        }
+    }
+}

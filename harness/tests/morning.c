@@ -1,0 +1,215 @@
+/* Document 01's morning over include/tickets.h: by the calls over a tickets_service, and again by the plain calls. Every answer is compared
+ * with the paper's bytes. Prints the four lines of the morning; a difference goes to standard error, and ends the program with 1. */
+#include <stdio.h>
+#include <stdlib.h>
+#include <string.h>
+
+#include "tickets.h"
+
+/* What an output holds before a call, and how many bytes it has. */
+enum { UNTOUCHED = 0xEE, OUTPUT = 40 };
+
+/* The records of the morning: ticket 0 of W1, ticket 1 of W2, ticket 2 of W3. */
+static const uint8_t TICKET_0[] = {0x00, 0x37, 0x00, 0x00, 0x00, 0x40, 0x00, 0x00, 0x01, 0x00, 0x00, 0x03, 0xe8, 0x00, 0x00, 0x90, 0x88};
+static const uint8_t TICKET_1[] = {0x04, 0x7f, 0x00, 0x01, 0x40, 0x00, 0x00, 0x00, 0x00, 0x01,
+                                   0x00, 0x00, 0x03, 0xf2, 0x00, 0x00, 0x90, 0x88, 0x00, 0x00};
+static const uint8_t TICKET_2[] = {0x01, 0xff, 0x00, 0x02, 0x40, 0x00, 0x00, 0x00, 0x00, 0x02, 0x00, 0x00,
+                                   0x03, 0xfc, 0x00, 0x00, 0x90, 0x88, 0x00, 0x00, 0x00, 0x01, 0x01, 0x01};
+
+/* W1: kind 1, `web`. */
+static const uint8_t W1[] = {0x00, 0x41, 0x01, 0x03, 'w', 'e', 'b'};
+
+/* The seconds of the three tickets together: 36000, 35990 and 35980. */
+enum { DAY_TOTAL = 107970 };
+
+/* Bytes, filled from their start. */
+typedef struct {
+    uint8_t bytes[128];
+    size_t length;
+} request;
+
+/* The calls that the morning makes, by the service's functions or by the plain ones. */
+typedef struct {
+    void (*fresh)(tickets_service *service);
+    uint32_t (*edit)(tickets_service *service, uint32_t number, const uint8_t *name, size_t name_len, uint32_t flags, uint64_t send,
+                     uint64_t receive, uint32_t lifetime);
+    tickets_answer (*request)(tickets_service *service, const uint8_t *request, size_t request_len, uint32_t clock, uint8_t *output,
+                              size_t output_len);
+    tickets_answer (*descent)(const tickets_service *service, uint32_t number);
+    uint64_t (*day_total)(const tickets_service *service);
+} calls;
+
+static void plain_fresh(tickets_service *service)
+{
+    tickets_fresh(service->accounts, service->ledger);
+}
+
+static uint32_t plain_edit(tickets_service *service, uint32_t number, const uint8_t *name, size_t name_len, uint32_t flags, uint64_t send,
+                           uint64_t receive, uint32_t lifetime)
+{
+    return tickets_edit(service->accounts, number, name, name_len, flags, send, receive, lifetime);
+}
+
+static tickets_answer plain_request(tickets_service *service, const uint8_t *bytes, size_t length, uint32_t clock, uint8_t *output,
+                                    size_t output_len)
+{
+    return tickets_request(service->accounts, service->ledger, bytes, length, clock, output, output_len);
+}
+
+static tickets_answer plain_descent(const tickets_service *service, uint32_t number)
+{
+    return tickets_descent(service->ledger, number);
+}
+
+static uint64_t plain_day_total(const tickets_service *service)
+{
+    return tickets_day_total(service->ledger);
+}
+
+static const calls OVER_SERVICE = {tickets_service_fresh, tickets_service_edit, tickets_service_request, tickets_service_descent,
+                                   tickets_service_day_total};
+static const calls PLAIN = {plain_fresh, plain_edit, plain_request, plain_descent, plain_day_total};
+
+/* Ends the program unless the condition holds. */
+static void expect(int holds, const char *what)
+{
+    if (!holds) {
+        fprintf(stderr, "morning: %s\n", what);
+        exit(1);
+    }
+}
+
+static void put(request *to, const void *bytes, size_t length)
+{
+    memcpy(to->bytes + to->length, bytes, length);
+    to->length += length;
+}
+
+/* Puts a length byte, and the bytes. */
+static void put_counted(request *to, const void *bytes, size_t length)
+{
+    uint8_t count = (uint8_t)length;
+    put(to, &count, 1);
+    put(to, bytes, length);
+}
+
+/* W2: kind 3 for `tech`, with ticket 0. */
+static request w2(void)
+{
+    request made = {{0}, 0};
+    put(&made, "\x00\x51\x03", 3);
+    put_counted(&made, TICKET_0, sizeof TICKET_0);
+    put_counted(&made, "tech", 4);
+    return made;
+}
+
+/* W3 and W4: kind 4 to `store`, with tickets 0 and 1, options CNAME-IN-ADDL-TKT. */
+static request w3(void)
+{
+    request made = {{0}, 0};
+    put(&made, "\x00\xb3\x04\x00\x02\x00\x00", 7);
+    put_counted(&made, TICKET_0, sizeof TICKET_0);
+    put_counted(&made, TICKET_1, sizeof TICKET_1);
+    put_counted(&made, "store", 5);
+    return made;
+}
+
+/* The three accounts of the morning. */
+static void set_accounts(const calls *by, tickets_service *service)
+{
+    expect(by->edit(service, 0, (const uint8_t *)"tech", 4, 0, 0, 0, 36000) == 0, "the edit of tech");
+    uint32_t flags = TICKETS_FLAG_TRUSTED | TICKETS_FLAG_SERVICE;
+    expect(by->edit(service, 1, (const uint8_t *)"web", 3, flags, 0x4, 0, 36000) == 0, "the edit of web");
+    expect(by->edit(service, 2, (const uint8_t *)"store", 5, TICKETS_FLAG_SERVICE, 0, 0, 36000) == 0, "the edit of store");
+    tickets_service before = *service;
+    expect(by->edit(service, 3, (const uint8_t *)"WEB", 3, 0, 0, 0, 1) == TICKETS_KDC_ERR_PRINCIPAL_NOT_UNIQUE, "3 named WEB");
+    expect(by->edit(service, 1, (const uint8_t *)"www", 3, 0, 0, 0, 1) == TICKETS_KDC_ERR_POLICY, "1 named www");
+    expect(by->edit(service, 64, (const uint8_t *)"new", 3, 0, 0, 0, 1) == TICKETS_KRB_ERR_GENERIC, "number 64");
+    expect(memcmp(&before, service, sizeof before) == 0, "an edit that is refused leaves the service as before");
+}
+
+/* Prints the line of a request: kind, error, record. */
+static void print_line(unsigned kind, tickets_answer answer, const uint8_t *output)
+{
+    printf("%u %u ", kind, (unsigned)answer.error);
+    for (uint32_t i = 0; i < answer.value; i++) {
+        printf("%02x", (unsigned)output[i]);
+    }
+    printf(answer.error == 0 ? "\n" : "-\n");
+}
+
+/* Makes a request, which has to be granted with this record and to leave the further bytes of the output. */
+static void granted(const calls *by, tickets_service *service, const uint8_t *bytes, size_t length, uint32_t clock, const uint8_t *record,
+                    size_t record_len, int print)
+{
+    uint8_t output[OUTPUT];
+    memset(output, UNTOUCHED, sizeof output);
+    tickets_answer answer = by->request(service, bytes, length, clock, output, sizeof output);
+    expect(answer.error == 0 && answer.value == record_len, "a grant and the record's length");
+    expect(memcmp(output, record, record_len) == 0, "the record");
+    for (size_t i = record_len; i < sizeof output; i++) {
+        expect(output[i] == UNTOUCHED, "the output's further bytes");
+    }
+    if (print) {
+        print_line(bytes[2], answer, output);
+    }
+}
+
+/* Makes a request, which has to be refused with this number and to leave the output and the service as before. */
+static void refused(const calls *by, tickets_service *service, const uint8_t *bytes, size_t length, uint32_t clock, size_t output_len,
+                    uint32_t error, int print)
+{
+    uint8_t output[OUTPUT];
+    memset(output, UNTOUCHED, sizeof output);
+    tickets_service before = *service;
+    tickets_answer answer = by->request(service, bytes, length, clock, output, output_len);
+    expect(answer.error == error && answer.value == 0, "a refusal and its number");
+    expect(memcmp(&before, service, sizeof before) == 0, "a refusal leaves the service as before");
+    for (size_t i = 0; i < sizeof output; i++) {
+        expect(output[i] == UNTOUCHED, "a refusal leaves the output as before");
+    }
+    if (print) {
+        print_line(bytes[2], answer, output);
+    }
+}
+
+/* The descent of each ticket, of a number that is not held, and the day total. */
+static void look_back(const calls *by, const tickets_service *service)
+{
+    for (uint32_t number = 0; number < 3; number++) {
+        tickets_answer steps = by->descent(service, number);
+        expect(steps.error == 0 && steps.value == number, "the steps back");
+    }
+    tickets_answer none = by->descent(service, 3);
+    expect(none.error == TICKETS_KRB_AP_ERR_MODIFIED && none.value == 0, "the descent of a number that is not held");
+    expect(by->day_total(service) == DAY_TOTAL, "the day total");
+}
+
+/* The morning from a service whose words are not 0, to W4. */
+static void morning(const calls *by, tickets_service *service, int print)
+{
+    request second = w2();
+    request third = w3();
+    memset(service, UNTOUCHED, sizeof *service);
+    by->fresh(service);
+    expect(by->day_total(service) == 0, "the day total of a fresh service");
+    set_accounts(by, service);
+    granted(by, service, W1, sizeof W1, 1000, TICKET_0, sizeof TICKET_0, print);
+    granted(by, service, second.bytes, second.length, 1010, TICKET_1, sizeof TICKET_1, print);
+    refused(by, service, third.bytes, third.length, 1020, TICKETS_LONGEST_RECORD - 1, TICKETS_KRB_ERR_RESPONSE_TOO_BIG, 0);
+    refused(by, service, third.bytes, third.length - 1, 1020, OUTPUT, TICKETS_KRB_ERR_GENERIC, 0);
+    granted(by, service, third.bytes, third.length, 1020, TICKET_2, sizeof TICKET_2, print);
+    refused(by, service, third.bytes, third.length, 37000, OUTPUT, TICKETS_KRB_AP_ERR_TKT_EXPIRED, print);
+    look_back(by, service);
+}
+
+int main(void)
+{
+    static tickets_service one;
+    static tickets_service other;
+    expect(sizeof one == 19464, "the memory of a service");
+    morning(&OVER_SERVICE, &one, 1);
+    morning(&PLAIN, &other, 0);
+    expect(memcmp(&one, &other, sizeof one) == 0, "the same words by either way");
+    return 0;
+}
