@@ -14,15 +14,15 @@ pub enum Origin {
 
 // A ticket. The trail has its accounts first and zeros after them; an initial ticket has no service, which is 0 there.
 pub struct Ticket {
-    pub number: u16,
     pub flags: u32,
+    pub window: Window,
+    pub trail: [u8; 8],
+    pub number: u16,
     pub client: u8,
     pub service: u8,
-    pub window: Window,
-    pub origin: Origin,
-    pub trail: [u8; 8],
     pub hops: u8,
     pub barred: bool,
+    pub origin: Origin,
 }
 
 // The map of an origin, without the barred mark.

@@ -68,13 +68,13 @@ good-all s h g = by (leb 1 (length s)) (leb (length s) 24) h
     by false q k = k
 
 -- one byte more: it decides, or the bytes before it do
-pub agree-stop : (f : Bool) (a b : List ℕ) (i : ℕ) → (folded f (getD a i 0) ≡ folded f (getD b i 0) → ⊥) → agree f a b (i + 1) ≡ false
+pub agree-stop : (f : Bool) (a b : List ℕ) (i : ℕ) → eqb (folded f (getD a i 0)) (folded f (getD b i 0)) ≡ false → agree f a b (i + 1) ≡ false
 unfolding agree
-agree-stop f a b i g = rw add-one (and-no (agree f a b i) _ (ne-eqb (folded f (getD a i 0)) (folded f (getD b i 0)) g))
+agree-stop f a b i h = rw add-one (and-no (agree f a b i) _ h)
 
-pub agree-back : (f : Bool) (a b : List ℕ) (i : ℕ) → folded f (getD a i 0) ≡ folded f (getD b i 0) → agree f a b (i + 1) ≡ agree f a b i
+pub agree-back : (f : Bool) (a b : List ℕ) (i : ℕ) → eqb (folded f (getD a i 0)) (folded f (getD b i 0)) ≡ true → agree f a b (i + 1) ≡ agree f a b i
 unfolding agree
-agree-back f a b i g = rw (add-one, eq-eqb (folded f (getD a i 0)) (folded f (getD b i 0)) g) (and-yes (agree f a b i))
+agree-back f a b i h = rw (add-one, h) (and-yes (agree f a b i))
 
 -- letter case leaves the low five bits of a byte alone
 low-five : (f : Bool) (c : ℕ) → folded f c % 32 ≡ c % 32

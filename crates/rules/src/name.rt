@@ -58,6 +58,16 @@ fn fold(ignore: bool, c: u8) -> u8
     if ignore { to_lower(c) } else { c }
 }
 
+// Whether two bytes are the same, with letter case ignored or not. Most are as they stand.
+fn same_byte(ignore: bool, a: u8, b: u8) -> bool
+    ensures { λ r. ⌜ r ≡ eqb (folded ignore a) (folded ignore b) ⌝ }
+{
+    if a == b {
+        return true;
+    }
+    fold(ignore, a) == fold(ignore, b)
+}
+
 // Whether the bytes of a row's name and of another of its length agree, from the last one on.
 fn agrees(words: &AccountWords, n: usize, ignore: bool, name: &[u8]) -> bool
     requires { ⌜ (n < 64) × (length (now name) ≤ 24) ⌝ }
@@ -66,7 +76,7 @@ fn agrees(words: &AccountWords, n: usize, ignore: bool, name: &[u8]) -> bool
     let mut i = name.len();
     while 0 < i {
         i -= 1;
-        if fold(ignore, byte_at(words, n, i)) != fold(ignore, name[i]) {
+        if !same_byte(ignore, byte_at(words, n, i), name[i]) {
             return false;
         }
     }

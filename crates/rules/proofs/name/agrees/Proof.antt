@@ -2,7 +2,9 @@ use mathlib.Core.Path.{_≡_, refl, sym, ap, _∙_}
 use Prim.Native.Nat.{ℕ, _+_, _*_, _≤_, _-_}
 use native.Mathlib.Omega.{arith}
 use lib.ListN.{length, getD}
+use lib.Dec.{eqb}
 use denote.Ref.{now}
+use borrow.Author.Tests.{not-true, not-false}
 use Rattle.rules.specs.Accounts.{nameAt}
 use Rattle.rules.specs.Names.{folded, agree}
 use Rattle.rules.proofs.Accounts.{name-byte}
@@ -23,28 +25,30 @@ loop-holds c = (search needs, refl)
 
 returns : tie.Need-returns Inv-loop μ-loop
 returns c =
-    let a = c .before .before .before .before .before .before .before .before .args in
+    let a = c .before .before .before .before .before .before .before .args in
     let s = now (a .name) in
     let w = now (a .words) in
-    let l = c .before .before .before .before .before .before .loop in
+    let l = c .before .before .before .before .before .loop in
+    let b = c .before .before .before .byte-at in
     let i = l .i - 1 in
-    let e : getD (nameAt w (6 * a .n) (length s)) i 0 ≡ c .before .before .before .before .byte-at .result = name-byte w (6 * a .n) (length s) i (omega arith) ∙ sym (c .before .before .before .before .byte-at .ensures) in
+    let e : getD (nameAt w (6 * a .n) (length s)) i 0 ≡ b .result = name-byte w (6 * a .n) (length s) i (omega arith) ∙ sym (b .ensures) in
     let j : l .i ≡ i + 1 = omega arith in
     sym (l .inv .1 ∙ rw j (agree-stop (a .ignore) (nameAt w (6 * a .n) (length s)) s i
-    (λ q. c .if1 .taken (c .before .before .before .fold .ensures ∙ ap (folded (a .ignore)) (sym e) ∙ q ∙ sym (c .before .fold2 .ensures)))))
+    (ap (λ (x : ℕ). eqb (folded (a .ignore) x) (folded (a .ignore) (getD s i 0))) e ∙ sym (c .before .same-byte .ensures) ∙ not-true (c .before .same-byte .result) (c .if1 .taken))))
 
 loop-again : tie.Need-loop-again Inv-loop μ-loop
 loop-again c =
-    let a = c .before .before .before .before .before .before .before .before .args in
+    let a = c .before .before .before .before .before .before .before .args in
     let s = now (a .name) in
     let w = now (a .words) in
-    let l = c .before .before .before .before .before .before .loop in
+    let l = c .before .before .before .before .before .loop in
+    let b = c .before .before .before .byte-at in
     let i = l .i - 1 in
-    let e : getD (nameAt w (6 * a .n) (length s)) i 0 ≡ c .before .before .before .before .byte-at .result = name-byte w (6 * a .n) (length s) i (omega arith) ∙ sym (c .before .before .before .before .byte-at .ensures) in
+    let e : getD (nameAt w (6 * a .n) (length s)) i 0 ≡ b .result = name-byte w (6 * a .n) (length s) i (omega arith) ∙ sym (b .ensures) in
     let j : l .i ≡ i + 1 = omega arith in (
       search needs,
       l .inv .1 ∙ ap (agree (a .ignore) (nameAt w (6 * a .n) (length s)) s) j ∙ agree-back (a .ignore) (nameAt w (6 * a .n) (length s)) s i
-          (ap (folded (a .ignore)) e ∙ sym (c .before .before .before .fold .ensures) ∙ c .if1 .left ∙ c .before .fold2 .ensures),
+          (ap (λ (x : ℕ). eqb (folded (a .ignore) x) (folded (a .ignore) (getD s i 0))) e ∙ sym (c .before .same-byte .ensures) ∙ not-false (c .before .same-byte .result) (c .if1 .left)),
     )
 
 returns-2 : tie.Need-returns-2 Inv-loop μ-loop
@@ -57,5 +61,5 @@ returns-2 c =
 pub agrees-spec : {M : Type 1} → statement M
 agrees-spec =
     tie.close
-    (tie.spec Inv-loop μ-loop loop-holds (λ c. search needs) (λ c κs. search needs) (λ c κs. search needs) (λ c. search needs)
-    (λ c κs. search needs) returns (λ c. search needs) loop-again returns-2)
+    (tie.spec Inv-loop μ-loop loop-holds (λ c. search needs) (λ c κs. search needs) (λ c. search needs) (λ c κs. search needs) returns
+    (λ c. search needs) loop-again returns-2)
