@@ -1,4 +1,4 @@
--- Laws of the descent call: what it answers at a ticket, from what it answers one step back.
+-- Laws of the descent call: what it answers at a ticket, from what it answers one step back. Document 01, "Lawful descent".
 -- Assumes nothing.
 use mathlib.Core.Path.{_≡_, refl, sym, ap, _∙_}
 use mathlib.Core.Bool.{Bool, true, false, cond, false≢true}

@@ -1,4 +1,4 @@
--- Laws of the calls: a request read, looked up and decided, and what a grant and a refusal leave.
+-- Laws of the calls: a request read, looked up and decided, and what a grant and a refusal leave. Document 01, "Decisions".
 -- Assumes nothing.
 use mathlib.Core.Path.{_≡_, refl, sym, ap, _∙_}
 use mathlib.Core.Bool.{Bool, true, false, _&&_, false≢true}
@@ -12,7 +12,8 @@ use mir.Val.{Fits}
 use borrow.Author.Tests.{le-leb, lt-ltb}
 use Rattle.record.specs.Fields.{Bytes, pickList}
 use Rattle.record.specs.TicketRecords.{Writable, wellFormed, mapOfTicket, recordOf, outputOf}
-use Rattle.record.specs.Requests.{isAccepted, readRequest}
+use Rattle.record.specs.Errors.{isAccepted}
+use Rattle.record.specs.Requests.{readRequest}
 use Rattle.record.specs.declared.errors.Error.the-variants.{«KRB_ERR_RESPONSE_TOO_BIG»}
 use Rattle.record.specs.declared.errors.Answer.{Answer}
 use Rattle.record.specs.declared.errors.Answer.the-variants.{Accepted, Refused}

@@ -1,4 +1,4 @@
--- What holds of a note over one list holds over another in which whatever it rests on still stands.
+-- What holds of a note over one list holds over another in which whatever it rests on still stands. Document 01, "Lawful descent".
 -- Stay is a property of notes that goes from a note to whatever ends no earlier: what a note that has it rests on has it too.
 -- Assumes nothing.
 use mathlib.Core.Path.{_≡_, refl}

@@ -1,5 +1,6 @@
--- Document 01's cases in one table over the definitions: H1 to H8 and the error table's examples, and the morning, W1 to W4, from its bytes,
--- with a direct ticket and a hop on the resource route beside it.
+-- Document 01, "Hops and a morning" and "Error numbers": their cases in one table over the definitions.
+-- H1 to H8 and the error table's examples, and the morning, W1 to W4, from its bytes, with a direct ticket and a hop on the resource route
+-- beside it.
 -- Assumes nothing.
 use mathlib.Core.Path.{_≡_, refl}
 use mathlib.Core.Bool.{Bool, true, false, _&&_}
@@ -73,22 +74,41 @@ morning =
 abbrev seen : Reply → List ℕ
 seen r = answerNumber (r .answer) ∷ r .output
 
+-- the records of the morning, at the start of an output of 31 bytes
+abbrev first-record : List ℕ
+first-record = 0x00 ∷ 0x37 ∷ 0x00 ∷ 0x00 ∷ 0x00 ∷ 0x40 ∷ 0x00 ∷ 0x00 ∷ 0x01 ∷ 0x00 ∷ 0x00 ∷ 0x03 ∷ 0xe8 ∷ 0x00 ∷ 0x00 ∷ 0x90 ∷ 0x88 ∷ replicate 14 0
+
+abbrev second-record : List ℕ
+second-record = 0x04 ∷ 0x7f ∷ 0x00 ∷ 0x01 ∷ 0x40 ∷ 0x00 ∷ 0x00 ∷ 0x00 ∷ 0x00 ∷ 0x01 ∷ 0x00 ∷ 0x00 ∷ 0x03 ∷ 0xf2 ∷ 0x00 ∷ 0x00 ∷ 0x90 ∷ 0x88 ∷ 0x00 ∷ 0x00 ∷ replicate 11 0
+
+abbrev third-record : List ℕ
+third-record = 0x01 ∷ 0xff ∷ 0x00 ∷ 0x02 ∷ 0x40 ∷ 0x00 ∷ 0x00 ∷ 0x00 ∷ 0x00 ∷ 0x02 ∷ 0x00 ∷ 0x00 ∷ 0x03 ∷ 0xfc ∷ 0x00 ∷ 0x00 ∷ 0x90 ∷ 0x88 ∷ 0x00 ∷ 0x00 ∷ 0x00 ∷ 0x01 ∷ 0x01 ∷ 0x01 ∷ replicate 7 0
+
+-- document 01's morning, W1 to W4; then W4 at 36999, which "would be granted", and the error table's examples for 60 and 52
+abbrev papers-morning : List Call
+papers-morning =
+    edit (editOf 0 tech 0 0 0 36000) ∷ edit (editOf 1 web 12 4 0 36000) ∷ edit (editOf 2 store 8 0 0 36000) ∷ request W1 1000 blank
+    ∷ request W2 1010 blank ∷ request W3 1020 blank ∷ request W3 37000 blank ∷ request W3 36999 blank ∷ request (0x00 ∷ []) 36999 blank
+    ∷ request W1 36999 (replicate 30 0) ∷ []
+
 pub record AllCases : Type 0 where
   -- H1 to H8, and the error table
   pub hops : Table-of-cases
+  -- three edits stored, then W1 to W4, W4 at 36999, 60 and 52
+  pub papers : map seen (replies emptyBook papers-morning)
+      ≡ (0 ∷ []) ∷ (0 ∷ []) ∷ (0 ∷ []) ∷ (0 ∷ first-record) ∷ (0 ∷ second-record) ∷ (0 ∷ third-record) ∷ (32 ∷ replicate 31 0)
+      ∷ (0 ∷ 0x01 ∷ 0xff ∷ 0x00 ∷ 0x03 ∷ 0x40 ∷ 0x00 ∷ 0x00 ∷ 0x00 ∷ 0x00 ∷ 0x02 ∷ 0x00 ∷ 0x00 ∷ 0x90 ∷ 0x87 ∷ 0x00 ∷ 0x00 ∷ 0x90 ∷ 0x88 ∷ 0x00 ∷ 0x00 ∷ 0x00 ∷ 0x01 ∷ 0x01 ∷ 0x01 ∷ replicate 7 0)
+      ∷ (60 ∷ replicate 31 0) ∷ (52 ∷ replicate 30 0) ∷ []
   -- four edits stored, then W1, W2, W3, the two grants beside them, and W4
   pub mornings : map seen (replies emptyBook morning)
-      ≡ (0 ∷ []) ∷ (0 ∷ []) ∷ (0 ∷ []) ∷ (0 ∷ [])
-      ∷ (0 ∷ 0x00 ∷ 0x37 ∷ 0x00 ∷ 0x00 ∷ 0x00 ∷ 0x40 ∷ 0x00 ∷ 0x00 ∷ 0x01 ∷ 0x00 ∷ 0x00 ∷ 0x03 ∷ 0xe8 ∷ 0x00 ∷ 0x00 ∷ 0x90 ∷ 0x88 ∷ replicate 14 0)
-      ∷ (0 ∷ 0x04 ∷ 0x7f ∷ 0x00 ∷ 0x01 ∷ 0x40 ∷ 0x00 ∷ 0x00 ∷ 0x00 ∷ 0x00 ∷ 0x01 ∷ 0x00 ∷ 0x00 ∷ 0x03 ∷ 0xf2 ∷ 0x00 ∷ 0x00 ∷ 0x90 ∷ 0x88 ∷ 0x00 ∷ 0x00 ∷ replicate 11 0)
-      ∷ (0 ∷ 0x01 ∷ 0xff ∷ 0x00 ∷ 0x02 ∷ 0x40 ∷ 0x00 ∷ 0x00 ∷ 0x00 ∷ 0x00 ∷ 0x02 ∷ 0x00 ∷ 0x00 ∷ 0x03 ∷ 0xfc ∷ 0x00 ∷ 0x00 ∷ 0x90 ∷ 0x88 ∷ 0x00 ∷ 0x00 ∷ 0x00 ∷ 0x01 ∷ 0x01 ∷ 0x01 ∷ replicate 7 0)
+      ≡ (0 ∷ []) ∷ (0 ∷ []) ∷ (0 ∷ []) ∷ (0 ∷ []) ∷ (0 ∷ first-record) ∷ (0 ∷ second-record) ∷ (0 ∷ third-record)
       ∷ (0 ∷ 0x00 ∷ 0x7f ∷ 0x00 ∷ 0x03 ∷ 0x00 ∷ 0x00 ∷ 0x00 ∷ 0x00 ∷ 0x01 ∷ 0x02 ∷ 0x00 ∷ 0x00 ∷ 0x04 ∷ 0x06 ∷ 0x00 ∷ 0x00 ∷ 0x90 ∷ 0x88 ∷ 0x00 ∷ 0x00 ∷ replicate 11 0)
       ∷ (0 ∷ 0x01 ∷ 0xff ∷ 0x00 ∷ 0x04 ∷ 0x40 ∷ 0x00 ∷ 0x00 ∷ 0x00 ∷ 0x00 ∷ 0x03 ∷ 0x00 ∷ 0x00 ∷ 0x04 ∷ 0x10 ∷ 0x00 ∷ 0x00 ∷ 0x90 ∷ 0x88 ∷ 0x00 ∷ 0x00 ∷ 0x00 ∷ 0x01 ∷ 0x01 ∷ 0x01 ∷ replicate 7 0)
       ∷ (32 ∷ replicate 31 0) ∷ []
 
 pub all-cases : AllCases
 unfolding sameTicket presentIn numberAt bigEndian run sizeAt offsetOf fieldOf fieldBytes knownMap hopsFit readableAs originAs trailOf readTicket pairBytes headBytes trailBytes tailBytes recordAs mapFits pathOf embeddedOf wholeRequest requestFor readRequest bit goodBytes goodName lower agree sameName numberFrom taken editChecks tgtChecks evidenceChecks userChecks lastChecks classicRoute resourceRoute permitted hopChecks initialWindow grantWindow hopWindow initialTicket directTicket selfTicket proxyTicket initialChecks directChecks selfChecks proxyChecks decideInitial decideDirect decideSelf decideProxy firstOf decideRequest
-all-cases = record { hops = cases; mornings = refl }
+all-cases = record { hops = cases; papers = refl; mornings = refl }
 
 -- ---- The morning is one of the lists that demand 3 speaks of
 abbrev tested : List ℕ → Bool

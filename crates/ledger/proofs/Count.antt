@@ -1,4 +1,4 @@
--- The descent call counts the steps of a lawful descent.
+-- The descent call counts the steps of a lawful descent. Document 01, "Lawful descent".
 -- Assumes nothing.
 use mathlib.Core.Path.{_≡_, refl, sym, ap, _∙_}
 use mathlib.Core.Bool.{Bool, true, false, cond}

@@ -1,4 +1,4 @@
--- Demand 3 is not empty: every list of calls whose arguments fit has a history from every service.
+-- Demand 3 is not empty: every list of calls whose arguments fit has a history from every service. Document 01, "The plain book".
 -- Assumes nothing.
 use mathlib.Core.Path.{_≡_, refl, ap}
 use mathlib.Core.List.{List, [], _∷_, map}

@@ -1,4 +1,4 @@
--- The invariant of the book's list: what holds of each note, and goes on to hold as the list grows.
+-- The invariant of the book's list: what holds of each note, and goes on to hold as the list grows. Document 01, "Lawful descent".
 -- Assumes nothing.
 use mathlib.Core.Path.{_≡_, refl, sym, ap, _∙_}
 use mathlib.Core.Bool.{Bool, true, false, false≢true}

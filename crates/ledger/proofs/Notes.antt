@@ -1,4 +1,4 @@
--- The ticket that a request of each kind makes is good over the list before it.
+-- The ticket that a request of each kind makes is good over the list before it. Document 01, "Decisions" and "Lawful descent".
 -- Assumes nothing.
 use mathlib.Core.Path.{_≡_, refl, sym, ap, ap₂, _∙_, subst}
 use mathlib.Core.Bool.{Bool, true, false, not, _&&_, _||_}

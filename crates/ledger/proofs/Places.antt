@@ -1,4 +1,4 @@
--- Laws of what is held: the search for a number, place after place.
+-- Laws of what is held: the search for a number, place after place. Document 01, "Decisions".
 -- Assumes nothing.
 use mathlib.Core.Path.{_≡_, refl, sym, ap, _∙_}
 use mathlib.Core.Bool.{Bool, true, false, _||_, false≢true}

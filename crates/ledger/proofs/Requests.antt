@@ -1,4 +1,4 @@
--- What a grant to a request tells, from its bytes: the kind, the checks that held, and that the new ticket is one that the writer accepts.
+-- What a grant tells, from the request's bytes: the kind, the checks that held, and that the writer accepts the ticket. Document 01, "Decisions".
 -- Assumes nothing.
 use mathlib.Core.Path.{_≡_, refl, sym, ap, _∙_}
 use mathlib.Core.Bool.{Bool, true, false, _&&_, false≢true}
@@ -10,7 +10,8 @@ use mir.Syntax.{w32}
 use mir.Val.{Fits}
 use Rattle.record.specs.Fields.{Bytes}
 use Rattle.record.specs.TicketRecords.{Writable}
-use Rattle.record.specs.Requests.{isAccepted, readRequest}
+use Rattle.record.specs.Errors.{isAccepted}
+use Rattle.record.specs.Requests.{readRequest}
 use Rattle.record.proofs.Presented.{request-writable}
 use Rattle.rules.proofs.Names.{found-most}
 use Rattle.record.specs.declared.errors.Answer.{Answer}

@@ -1,4 +1,4 @@
--- A service whose calls keep their promises goes along with the plain book.
+-- A service whose calls keep their promises goes along with the plain book. Document 01, "The plain book".
 -- Assumes nothing.
 use mathlib.Core.Path.{_≡_, refl, sym, ap, ap₂, _∙_, subst}
 use mathlib.Core.List.{List, [], _∷_, _++_, map, append-nil, append-assoc}

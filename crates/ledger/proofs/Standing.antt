@@ -1,4 +1,4 @@
--- What a number stands for: in the list of tickets and in the list of notes, and as the list grows.
+-- What a number stands for: in the list of tickets and in the list of notes, and as the list grows. Document 01, "Lawful descent".
 -- Assumes nothing.
 use mathlib.Core.Path.{_≡_, refl, sym, ap, _∙_}
 use mathlib.Core.Bool.{Bool, true, false, cond, _&&_, false≢true}

@@ -1,4 +1,4 @@
--- Demand 3: what holds of every list of calls, from the promises of the calls alone.
+-- Demand 3: what holds of every list of calls, from the promises of the calls alone. Document 01, "The plain book" and "Lawful descent".
 -- Assumes nothing.
 use mathlib.Core.Path.{_≡_, refl, sym, ap, _∙_, subst}
 use mathlib.Core.Bool.{true}

@@ -1,4 +1,4 @@
--- Laws of the day total: the sum, place after place.
+-- Laws of the day total: the sum, place after place. Document 01, "Error numbers".
 -- Assumes nothing.
 use mathlib.Core.Path.{_≡_}
 use mathlib.Core.List.{List}

@@ -1,4 +1,4 @@
--- Laws of the ledger's words: how many tickets they hold, a ticket read back from its four words, and what storing a ticket leaves.
+-- Laws of the ledger's words: the tickets they hold, a ticket read back from its four words, what storing a ticket leaves. Document 01, "Decisions".
 -- Assumes nothing.
 use mathlib.Core.Path.{_≡_, refl, sym, ap, _∙_}
 use mathlib.Core.Bool.{Bool, true, false}

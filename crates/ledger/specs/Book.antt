@@ -51,6 +51,7 @@ laid Accepted t o = recordOf t ++ drop (length (recordOf t)) o
 laid (Refused e) t o = o
 
 -- ---- The book
+-- a ticket of the list; "Beside it the book notes the request and the table as it stands", the request by its bytes
 pub record Note : Type 0 where
   pub ticket : Ticket
   pub bytes : List ℕ

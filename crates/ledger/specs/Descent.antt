@@ -129,6 +129,7 @@ pub record Lawful (ns : List Note) (m : Note) : Type 0 where
 
 -- ---- "The descent call counts the steps to the initial ticket"; none where it answers 41: "for a number not held, or where a back number is
 -- absent or doesn't fall"
+-- one step more; none stays none
 abbrev pub more : Option ℕ → Option ℕ
 more none = none
 more (some k) = some (suc k)

@@ -1,5 +1,5 @@
--- A service as the words that the caller lends, the promise of each call, and the histories that the promises alone make up.
--- Document 01, "The plain book" (its first paragraph).
+-- A service as lent words, the promise of each call, and the histories that the promises alone make up. Document 01, "The plain book".
+-- Its first paragraph says which lists of calls these are. The caller lends the words.
 -- Assumes nothing.
 use mathlib.Core.Path.{_≡_}
 use mathlib.Core.List.{List, [], _∷_}

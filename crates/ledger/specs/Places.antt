@@ -30,6 +30,7 @@ firstOf [] n = notHeld
 firstOf (t ∷ ts) n = cond (eqb (t .number) n) (heldTicket t) (firstOf ts n)
 
 -- ---- What the code looks up for a request of each kind: only what its decision asks for
+-- nothing: kind 1 presents no ticket
 abbrev pub foundNone : Found
 foundNone = record { held = notHeld; shown = notHeld }
 
@@ -41,6 +42,7 @@ foundOne l t = record { held = firstOf l t; shown = notHeld }
 abbrev pub foundBoth : List Ticket → ℕ → ℕ → Found
 foundBoth l t e = record { held = firstOf l t; shown = firstOf l e }
 
+-- by kind: nothing for kind 1, the TGT for kinds 2 and 3, the TGT and the evidence for kind 4
 abbrev pub foundFor : Kind → List Ticket → ℕ → ℕ → Found
 foundFor kind.Initial l t e = foundNone
 foundFor kind.Direct l t e = foundOne l t

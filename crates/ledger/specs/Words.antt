@@ -65,6 +65,7 @@ tagOf (Direct t) = 1
 tagOf (SelfIssued t) = 2
 tagOf (Delegated t e) = 3
 
+-- the barred mark in a place's third word: the byte above the tag is 1
 abbrev pub markOf : Bool → ℕ
 markOf true = 256
 markOf false = 0

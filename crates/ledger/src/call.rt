@@ -15,7 +15,7 @@ use record::Request;
 use record::RequestReading;
 use record::Ticket;
 use record::Written;
-use record::blank_ticket;
+use record::is_accepted;
 use record::read_request;
 use record::write_ticket;
 use rules::AccountWords;
@@ -25,15 +25,14 @@ use rules::Moment;
 use rules::decide;
 use rules::edit_account;
 use rules::fresh_accounts;
+use rules::refuse;
 ghost use mathlib.Core.Path.{_≡_};
 ghost use mathlib.Core.List.{List, []};
 ghost use Prim.Native.Nat.{ℕ, _≤_};
 ghost use lib.ListN.{length, replicate};
 ghost use Rattle.record.specs.TicketRecords.{blankTicket};
-ghost use Rattle.record.specs.Requests.{isAccepted};
 ghost use Rattle.rules.specs.Accounts.{tableOf};
 ghost use Rattle.rules.specs.Edits.{editOf};
-ghost use Rattle.rules.specs.Decisions.{refusal};
 ghost use Rattle.ledger.specs.Words.{ticketsOf, noTickets};
 ghost use Rattle.ledger.specs.Places.{foundNone, foundOne, foundBoth, foundFor};
 ghost use Rattle.ledger.specs.Book.{decideRequest};
@@ -64,26 +63,6 @@ pub fn edit(
     ensures { λ r. ⌜ ((l : List ℕ) → Edited (record { accounts = now (accounts .entry); ledger = l }) (editOf number (now (name .entry)) flags send receive lifetime) (record { answer = r; ticket = blankTicket; output = [] }) (record { accounts = now (accounts .exit); ledger = l })) ⌝ }
 {
     edit_account(accounts, number, name, flags, send, receive, lifetime)
-}
-
-// Whether an answer is no refusal.
-fn accepts(answer: Answer) -> bool
-    ensures { λ r. ⌜ r ≡ isAccepted answer ⌝ }
-{
-    match answer {
-        Answer::Accepted => true,
-        Answer::Refused(_) => false,
-    }
-}
-
-// A refusal, with a blank ticket.
-fn refuse(answer: Answer) -> Decision
-    ensures { λ r. ⌜ r ≡ refusal answer ⌝ }
-{
-    Decision {
-        answer,
-        ticket: blank_ticket(),
-    }
 }
 
 // What is held at the numbers of the TGT and of the evidence that a request presents.
@@ -148,7 +127,7 @@ fn decide_request(
 {
     let reading = read_request(bytes);
     let answer = reading.answer;
-    if !accepts(answer) {
+    if !is_accepted(answer) {
         return refuse(answer);
     }
     if room < 31 {
@@ -185,7 +164,7 @@ pub fn request(
     let decision = decide_request(accounts, ledger, bytes, clock, output.len());
     let answer = decision.answer;
     let ticket = decision.ticket;
-    if accepts(answer) {
+    if is_accepted(answer) {
         store_ticket(ledger, ticket);
         write_ticket(ticket, output);
     }

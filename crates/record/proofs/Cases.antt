@@ -1,4 +1,4 @@
--- Document 01's morning over the definitions: the records of its three grants, read and written, and the bytes of W1's request, read.
+-- Document 01, "Hops and a morning", over the definitions: the records of the three grants, read and written, and W1's request, read.
 -- Assumes nothing.
 use mathlib.Core.Path.{_≡_, refl}
 use mathlib.Core.Bool.{Bool, true, false}

@@ -1,4 +1,4 @@
--- Laws of `Decides`, and what makes two origins and two tickets equal.
+-- Laws of `Decides`, and what makes two origins and two tickets equal. Document 01, "Decisions".
 -- Assumes nothing.
 use mathlib.Core.Path.{_≡_, refl, sym, ap, ap₂, _∙_}
 use mathlib.Core.Bool.{Bool, true, false, _&&_, Bool·beq, false≢true}

@@ -1,4 +1,4 @@
--- Laws of maps, fields and big-endian numbers, for every layout, width and place.
+-- Laws of maps, fields and big-endian numbers, for every layout, width and place. Document 01, "Ticket records" and "Requests".
 -- Assumes nothing.
 use mathlib.Core.Path.{_≡_, refl, sym, ap, _∙_}
 use mathlib.Core.Bool.{Bool, true, false, false≢true}

@@ -1,3 +1,4 @@
+-- Laws of the record layer, and its cases. Document 01, "Ticket records", "Requests" and "Decisions".
 pub mod Bools
 pub mod Validity
 pub mod Fields

@@ -1,4 +1,5 @@
--- Laws of writing: runs of stores, `sets l i vs`, what functions that put bytes do one after the other, and what the writer answers.
+-- Laws of writing. Document 01, "Ticket records".
+-- Runs of stores, `sets l i vs`, what functions that put bytes do one after the other, and what the writer answers.
 -- Assumes nothing.
 use mathlib.Core.Path.{_≡_, refl, sym, ap, _∙_}
 use mathlib.Core.Bool.{Bool, true, false, _&&_}

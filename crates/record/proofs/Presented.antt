@@ -1,4 +1,4 @@
--- The tickets that a readable request presents are values that the ticket reader gives.
+-- The tickets that a readable request presents are values that the ticket reader gives. Document 01, "Requests".
 -- Assumes nothing.
 use mathlib.Core.Path.{_≡_, refl}
 use mathlib.Core.Bool.{Bool, true, false, _&&_, false≢true}
@@ -9,7 +9,8 @@ use lib.Seq.{getD-drop}
 use lib.Dec.{eqb, lit<}
 use Rattle.record.specs.Fields.{Bytes, presentIn, mapOf, offsetOf, fieldOf}
 use Rattle.record.specs.TicketRecords.{blankTicket, accepted, pickReading, readTicket, hopsFit, allZero, serviceFits, wellFormed, Writable}
-use Rattle.record.specs.Requests.{requestLayout, pathOf, spanOf, partOf, embeddedOf, isAccepted, hasTicket, wholeRequest, requestAs, refusedRequest, pickRequest, requestFor, readRequest}
+use Rattle.record.specs.Errors.{isAccepted}
+use Rattle.record.specs.Requests.{requestLayout, pathOf, spanOf, partOf, embeddedOf, hasTicket, wholeRequest, requestAs, refusedRequest, pickRequest, requestFor, readRequest}
 use Rattle.record.specs.declared.errors.Answer.{Answer}
 use Rattle.record.specs.declared.errors.Answer.the-variants.{Accepted, Refused}
 use Rattle.record.specs.declared.reader.Reading.{Reading}

@@ -1,4 +1,4 @@
--- Laws of the definitions of requests: which maps are of a kind, where the parts lie, and what the reader gives.
+-- Laws of the definitions of requests: which maps are of a kind, where the parts lie, and what the reader gives. Document 01, "Requests".
 -- Assumes nothing.
 use mathlib.Core.Path.{_≡_, refl, sym, ap, _∙_, subst}
 use mathlib.Core.Bool.{Bool, true, false, _&&_, false≢true}

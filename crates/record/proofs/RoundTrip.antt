@@ -1,4 +1,5 @@
--- The three laws of ticket records: writing undoes reading, reading undoes writing, and the reader gives exactly what the writer accepts.
+-- The three laws of ticket records, reader and writer together. Document 01, "Ticket records".
+-- Writing undoes reading, reading undoes writing, and the reader gives exactly what the writer accepts.
 -- Assumes nothing.
 use mathlib.Core.Path.{_≡_, refl, sym, ap, ap₂, _∙_, subst}
 use mathlib.Core.Bool.{Bool, true, false, _&&_, false≢true}

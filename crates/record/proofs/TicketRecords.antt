@@ -1,4 +1,4 @@
--- Laws of the definitions of ticket records: what makes bytes readable, and what the reader gives then.
+-- Laws of the definitions of ticket records: what makes bytes readable, and what the reader gives then. Document 01, "Ticket records".
 -- Assumes nothing.
 use mathlib.Core.Path.{_≡_, refl, sym, ap, _∙_}
 use mathlib.Core.Bool.{Bool, true, false, _&&_, false≢true}

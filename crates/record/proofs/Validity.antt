@@ -1,4 +1,4 @@
--- Laws of a ticket's window.
+-- Laws of a ticket's window. Document 01, "Decisions".
 -- Assumes nothing.
 use mathlib.Core.Path.{_≡_, refl}
 use mathlib.Core.Bool.{Bool, true, false, _&&_, not}

@@ -22,6 +22,7 @@ pub record SameHead (a b : Ticket) : Type 0 where
   pub service : a .service ≡ b .service
   pub barred : a .barred ≡ b .barred
 
+-- "in every field", for trails: two lists are of one length and equal in every place
 abbrev pub sameList : List ℕ → List ℕ → Bool
 sameList [] [] = true
 sameList [] (y ∷ ys) = false

@@ -1,6 +1,7 @@
 -- The refusals and their numbers. Document 01, "Error numbers"; the names are RFC 4120's (section 7.5.9).
 -- Assumes nothing.
 use Prim.Native.Nat.{ℕ}
+use mathlib.Core.Bool.{Bool, true, false}
 use Rattle.record.specs.declared.errors.Error.{Error}
 use Rattle.record.specs.declared.errors.Answer.{Answer}
 use Rattle.record.specs.declared.errors.Answer.the-variants.{Accepted, Refused}
@@ -29,3 +30,8 @@ numberOf «KRB_ERR_FIELD_TOOLONG» = 61
 abbrev pub answerNumber : Answer → ℕ
 answerNumber Accepted = 0
 answerNumber (Refused e) = numberOf e
+
+-- the answer is no refusal
+abbrev pub isAccepted : Answer → Bool
+isAccepted Accepted = true
+isAccepted (Refused e) = false

@@ -1,5 +1,5 @@
--- What ticket records and requests are made of: a 16-bit map, then only the fields whose bit stands, in bit order, big-endian.
--- Document 01, the head, "Ticket records" and "Requests". Reading is total: a byte past the end counts as 0.
+-- What ticket records and requests are made of: a map, then fields. Document 01, its head, "Ticket records" and "Requests".
+-- A 16-bit map, then only the fields whose bit stands, in bit order, big-endian. Reading is total: a byte past the end counts as 0.
 -- Assumes nothing.
 use Prim.Native.Nat.{ℕ, zero, suc, _+_, _*_, _/_, _%_, _^_, _<_}
 use mathlib.Core.Path.{_≡_}
@@ -15,14 +15,17 @@ use Rattle.record.specs.declared.Field.{Field}
 abbrev pub Bytes : List ℕ → Type 0
 Bytes s = (i : ℕ) → Fits w8 (getD s i 0)
 
+-- "only the fields whose bit stands": the first of two numbers where a test holds, such as that a bit stands, else the second
 abbrev pub pick : Bool → ℕ → ℕ → ℕ
 pick true a b = a
 pick false a b = b
 
+-- the same of two tests: what a field must meet where its bit stands, and what it must meet where the bit does not
 abbrev pub pickBool : Bool → Bool → Bool → Bool
 pickBool true a b = a
 pickBool false a b = b
 
+-- the same of two runs of bytes, such as those of a field whose bit stands, and none
 abbrev pub pickList : Bool → List ℕ → List ℕ → List ℕ
 pickList true a b = a
 pickList false a b = b
@@ -55,6 +58,7 @@ pub record Layout : Type 0 where
   pub widths : List ℕ
   pub counted : ℕ
 
+-- how many bytes the field of bit k has, of a counted one the count alone; a bit past the widths has "no bytes", as the marks do
 abbrev pub widthOf : Layout → ℕ → ℕ
 widthOf L k = getD (L .widths) k 0
 

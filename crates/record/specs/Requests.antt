@@ -9,6 +9,7 @@ use lib.Dec.{eqb}
 use lib.Bits.{bitAnd}
 use Rattle.record.specs.Fields.{Layout, pick, presentIn, mapOf, offsetOf, fieldOf}
 use Rattle.record.specs.TicketRecords.{blankTicket, accepted, pickReading, readTicket}
+use Rattle.record.specs.Errors.{isAccepted}
 use Rattle.record.specs.declared.errors.Error.the-variants.{«KRB_ERR_GENERIC»}
 use Rattle.record.specs.declared.errors.Answer.{Answer}
 use Rattle.record.specs.declared.errors.Answer.the-variants.{Accepted, Refused}
@@ -41,10 +42,12 @@ allowedBits k = getD (0 ∷ 0x4B ∷ 0x9B ∷ 0x5B ∷ 0xBF ∷ []) k 0
 unfoldable pub mapFits : ℕ → ℕ → Bool
 mapFits k m = eqb (bitAnd (neededBits k) m) (neededBits k) && eqb (bitAnd (allowedBits k) m) m
 
+-- the decision path of the kind k where the map is of that kind, else the refusal: "map not of its kind"
 abbrev pub pathIf : Bool → Kind → Path
 pathIf true k = Decide k
 pathIf false k = Refuse
 
+-- the path of a kind, kept where the map is of that kind, else the refusal
 abbrev pub pickPath : Bool → Path → Path
 pickPath true p = p
 pickPath false p = Refuse
@@ -69,13 +72,11 @@ partOf s p = take (p .len) (drop (p .at) s)
 abbrev pub embeddedIn : List ℕ → ℕ → ℕ → Span → Reading
 embeddedIn s m k p = pickReading (presentIn m k) (readTicket (partOf s p)) (accepted blankTicket)
 
+-- the reading of the ticket of bit k ("4 TGT, 5 evidence"), whose record lies behind its length byte
 unfoldable pub embeddedOf : List ℕ → ℕ → ℕ → Reading
 embeddedOf s m k = embeddedIn s m k (spanOf s m k)
 
-abbrev pub isAccepted : Answer → Bool
-isAccepted Accepted = true
-isAccepted (Refused e) = false
-
+-- the reader does not refuse it: a request is unreadable if "the reader refuses 4 or 5"
 abbrev pub hasTicket : Reading → Bool
 hasTicket r = isAccepted (r .answer)
 
@@ -97,6 +98,7 @@ requestAs s m k =
       service = spanOf s m 7;
     }
 
+-- 0 bytes at 0: where a name lies that the request does not have
 abbrev pub nowhere : Span
 nowhere = record { at = 0; len = 0 }
 
@@ -114,13 +116,16 @@ blankRequest =
       service = nowhere;
     }
 
+-- 60: "request unreadable, map not of its kind, kind not 1 to 4"; a blank request stands beside it
 abbrev pub refusedRequest : RequestReading
 refusedRequest = record { answer = Refused «KRB_ERR_GENERIC»; request = blankRequest }
 
+-- the first of two readings where a test holds, such as that the request is whole, else the second
 abbrev pub pickRequest : Bool → RequestReading → RequestReading → RequestReading
 pickRequest true a b = a
 pickRequest false a b = b
 
+-- the reading of s with the map m, on the path that its kind and map pick: the request where it is whole, else 60
 unfoldable pub requestFor : List ℕ → ℕ → Path → RequestReading
 requestFor s m Refuse = refusedRequest
 requestFor s m (Decide k) =

@@ -1,5 +1,5 @@
--- Ticket records: which bytes are a record, the ticket of a record, which tickets have a record, and the record of a ticket.
--- Document 01, "Ticket records". The reader refuses what that section lists, and nothing else.
+-- Ticket records: which bytes are one and of which ticket; which tickets have one, and which bytes it is. Document 01, "Ticket records".
+-- The reader refuses what that section lists, and nothing else.
 -- Assumes nothing.
 use Prim.Native.Nat.{ℕ, _+_, _-_}
 use mathlib.Core.List.{List, [], _∷_, _++_}
@@ -38,6 +38,7 @@ originMap (Direct t) = 0x007F
 originMap (SelfIssued t) = 0x047F
 originMap (Delegated t e) = 0x01FF
 
+-- the map of an origin; 0x0200 is added for the barred mark
 abbrev pub mapFor : Origin → Bool → ℕ
 mapFor o b = pick b (originMap o + 0x0200) (originMap o)
 
@@ -61,6 +62,7 @@ hopsFit m n = pickBool (presentIn m 8) (leb 1 n && leb n 8) (eqb n 0)
 unfoldable pub readableAs : List ℕ → ℕ → Bool
 readableAs s m = knownMap m && (hopsFit m (hopsOf s m) && eqb (length s) (offsetOf ticketLayout s m 9))
 
+-- the first of two origins where a test holds, such as that a bit of the map stands, else the second
 abbrev pub pickOrigin : Bool → Origin → Origin → Origin
 pickOrigin true a b = a
 pickOrigin false a b = b
@@ -106,12 +108,15 @@ blankTicket =
       barred = false;
     }
 
+-- the reading of bytes that are the record of t
 abbrev pub accepted : Ticket → Reading
 accepted t = record { answer = Accepted; ticket = t }
 
+-- "The reader refuses, with 60"; a blank ticket stands beside it
 abbrev pub refused : Reading
 refused = record { answer = Refused «KRB_ERR_GENERIC»; ticket = blankTicket }
 
+-- the first of two readings where a test holds, such as that the bytes are a record, else the second
 abbrev pub pickReading : Bool → Reading → Reading → Reading
 pickReading true a b = a
 pickReading false a b = b
@@ -120,18 +125,21 @@ pickReading false a b = b
 unfoldable pub readTicket : List ℕ → Reading
 readTicket s = pickReading (readableAs s (mapOf s)) (accepted (ticketAs s (mapOf s))) refused
 
+-- "number of the ticket-granting ticket used"; 0 for an initial ticket, which has none
 abbrev pub tgtOf : Origin → ℕ
 tgtOf Initial = 0
 tgtOf (Direct t) = t
 tgtOf (SelfIssued t) = t
 tgtOf (Delegated t e) = t
 
+-- "evidence number"; 0 for a ticket that is not delegated, which has none
 abbrev pub evidenceOf : Origin → ℕ
 evidenceOf Initial = 0
 evidenceOf (Direct t) = 0
 evidenceOf (SelfIssued t) = 0
 evidenceOf (Delegated t e) = e
 
+-- every entry is 0, as the reader leaves the places behind a trail
 unfoldable pub allZero : List ℕ → Bool
 allZero [] = true
 allZero (x ∷ xs) = eqb x 0 && allZero xs
@@ -187,6 +195,7 @@ tailBytes t m =
     pairBytes m 4 (t .window .start) (t .window .end) ++ pairBytes m 6 (tgtOf (t .origin)) (evidenceOf (t .origin))
     ++ trailBytes m (t .trail) (t .hops)
 
+-- "A 16-bit map, then only the fields whose bit stands, in bit order": the record of t with the map m
 unfoldable pub recordAs : Ticket → ℕ → List ℕ
 recordAs t m = headBytes t m ++ tailBytes t m
 
@@ -194,6 +203,7 @@ recordAs t m = headBytes t m ++ tailBytes t m
 abbrev pub recordOf : Ticket → List ℕ
 recordOf t = recordAs t (mapOfTicket t)
 
+-- the first of two answers of the writer where its check holds, else the second
 abbrev pub pickWritten : Bool → Written → Written → Written
 pickWritten true a b = a
 pickWritten false a b = b

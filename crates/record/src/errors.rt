@@ -1,6 +1,6 @@
 // The refusals, by RFC 4120's names (document 01, "Error numbers").
 ghost use mathlib.Core.Path.{_≡_};
-ghost use Rattle.record.specs.Errors.{numberOf, answerNumber};
+ghost use Rattle.record.specs.Errors.{isAccepted, numberOf, answerNumber};
 
 pub enum Error {
     KDC_ERR_C_PRINCIPAL_UNKNOWN,
@@ -25,6 +25,16 @@ pub enum Error {
 pub enum Answer {
     Accepted,
     Refused(Error),
+}
+
+// Whether an answer is no refusal.
+pub fn is_accepted(answer: Answer) -> bool
+    ensures { λ r. ⌜ r ≡ isAccepted answer ⌝ }
+{
+    match answer {
+        Answer::Accepted => true,
+        Answer::Refused(_) => false,
+    }
 }
 
 // The number of a refusal.

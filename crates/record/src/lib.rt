@@ -13,6 +13,7 @@ pub use errors::Answer;
 pub use errors::Error;
 pub use errors::answer_number;
 pub use errors::error_number;
+pub use errors::is_accepted;
 pub use reader::Reading;
 pub use reader::read_ticket;
 pub use request::Kind;

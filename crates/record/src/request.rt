@@ -4,6 +4,7 @@ use crate::both;
 use crate::byte_field;
 use crate::errors::Answer;
 use crate::errors::Error;
+use crate::errors::is_accepted;
 use crate::map_of;
 use crate::present;
 use crate::reader::Reading;
@@ -231,10 +232,7 @@ fn has_ticket(reading: Reading) -> bool
     ensures { λ r. ⌜ r ≡ hasTicket reading ⌝ }
 {
     let answer = reading.answer;
-    match answer {
-        Answer::Accepted => true,
-        Answer::Refused(_) => false,
-    }
+    is_accepted(answer)
 }
 
 // The reading of bytes that are no request.

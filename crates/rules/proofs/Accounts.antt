@@ -1,4 +1,4 @@
--- Laws of the accounts' words: the rows of a table, names and their packing, and what storing a row leaves.
+-- Laws of the accounts' words: the rows of a table, names and their packing, and what storing a row leaves. Document 01, "Accounts".
 -- Assumes nothing.
 use mathlib.Core.Path.{_≡_, refl, sym, ap, _∙_}
 use mathlib.Core.Bool.{Bool, true, false, _&&_}

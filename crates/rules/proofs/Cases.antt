@@ -1,4 +1,4 @@
--- Document 01's hops H1 to H8 and the examples of its error table that need no ledger, over the definitions, by evaluation.
+-- Document 01, H1 to H8 of "Hops and a morning" and the examples of "Error numbers" that need no ledger, over the definitions, by evaluation.
 -- Assumes nothing.
 use mathlib.Core.Path.{_≡_, refl}
 use mathlib.Core.Bool.{Bool, true, false, not, cond}

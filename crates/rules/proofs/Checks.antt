@@ -1,4 +1,4 @@
--- Laws of checks in order.
+-- Laws of checks in order. Document 01, "Error numbers".
 -- Assumes nothing.
 use mathlib.Core.Path.{_≡_, refl, sym, ap, _∙_}
 use mathlib.Core.Bool.{Bool, true, false, false≢true}
@@ -11,7 +11,8 @@ use Rattle.record.specs.declared.errors.Answer.the-variants.{Accepted, Refused}
 use Rattle.record.specs.declared.errors.Error.the-variants.{«KDC_ERR_C_PRINCIPAL_UNKNOWN», «KDC_ERR_CLIENT_REVOKED»}
 use Rattle.rules.specs.Decisions.{enabled, userChecks}
 use Rattle.rules.specs.declared.Account.{Account}
-use Rattle.rules.specs.Checks.{Check, pickAnswer, judge, andThen, isAccepted}
+use Rattle.record.specs.Errors.{isAccepted}
+use Rattle.rules.specs.Checks.{Check, pickAnswer, judge, andThen}
 
 pick-then : (p : Bool) (a b c : Answer) (e : Error) → a ≡ andThen b c → pickAnswer p a (Refused e) ≡ andThen (pickAnswer p b (Refused e)) c
 pick-then true a b c e h = h

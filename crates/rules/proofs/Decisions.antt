@@ -1,4 +1,4 @@
--- Laws of the decisions: times, the part of the request that a name lies in, and each kind's answer from its checks in groups.
+-- Laws of the decisions: times, the part of the request that a name lies in, each kind's answer from its checks in groups. Document 01, "Decisions".
 -- Assumes nothing.
 use mathlib.Core.Path.{_≡_, refl, sym, ap, _∙_}
 use mathlib.Core.Bool.{Bool, true, false, not, _&&_, false≢true}
@@ -10,6 +10,7 @@ use lib.ListN.{length, take, drop, drop-of-length-le, length-drop}
 use lib.Seq.{take-all, take-nil, drop-length}
 use lib.Dec.{leb, ltb}
 use borrow.Author.Tests.{le-leb, lt-leb, ltb-true}
+use Rattle.record.specs.Errors.{isAccepted}
 use Rattle.record.specs.Requests.{partOf}
 use Rattle.record.specs.declared.errors.Error.{Error}
 use Rattle.record.specs.declared.errors.Answer.{Answer}
@@ -22,7 +23,7 @@ use Rattle.record.specs.declared.request.Kind.the-variants as kind
 use Rattle.record.specs.declared.request.Request.{Request}
 use Rattle.record.specs.declared.request.Span.{Span}
 use Rattle.rules.specs.Accounts.{Table, account, serves}
-use Rattle.rules.specs.Checks.{Check, check, pickAnswer, judge, andThen, isAccepted}
+use Rattle.rules.specs.Checks.{Check, check, pickAnswer, judge, andThen}
 use Rattle.rules.specs.Decisions.{roomCheck, tgtChecks, evidenceChecks, serviceCheck, selfCheck, userChecks, lastChecks, permitted, hopChecks, initialWindow, grantWindow, hopWindow, initialTicket, directTicket, selfTicket, proxyTicket, initialChecks, directChecks, selfChecks, proxyChecks, refusal, decided, decideInitial, decideDirect, decideSelf, decideProxy, decideKind}
 use Rattle.rules.specs.declared.Account.{Account}
 use Rattle.rules.specs.declared.decision.Held.{Held}

@@ -1,4 +1,4 @@
--- Laws of edits: what keeps a name, and what a stored edit tells.
+-- Laws of edits: what keeps a name, and what a stored edit tells. Document 01, "Accounts".
 -- Assumes nothing.
 use mathlib.Core.Path.{_≡_, refl, sym, ap, _∙_}
 use mathlib.Core.Bool.{Bool, true, false, not, _&&_, _||_, false≢true}
@@ -15,7 +15,8 @@ use Rattle.record.specs.declared.errors.Answer.{Answer}
 use Rattle.record.specs.declared.errors.Answer.the-variants.{Accepted, Refused}
 use Rattle.rules.specs.Accounts.{Table, rowOf, tableOf, storeRow}
 use Rattle.rules.specs.Names.{goodName, sameName, taken}
-use Rattle.rules.specs.Checks.{check, isAccepted}
+use Rattle.record.specs.Errors.{isAccepted}
+use Rattle.rules.specs.Checks.{check}
 use Rattle.rules.specs.Edits.{Edit, editOf, readable, keepsName, editChecks, editAnswer, editRow, editedBy, edited, storedBy}
 use Rattle.rules.proofs.Accounts.{Storable, table-stored}
 use Rattle.rules.proofs.Checks.{first-held}

@@ -1,4 +1,4 @@
--- What a grant tells the layer above, kind by kind: which checks held, what the ticket is, and what holds of it.
+-- What a grant tells the layer above, kind by kind: which checks held, what the ticket is, and what holds of it. Document 01, "Decisions".
 -- Assumes nothing.
 use mathlib.Core.Path.{_≡_, refl, sym, ap, _∙_}
 use mathlib.Core.Bool.{Bool, true, false, not, _&&_, _||_, cond, false≢true}

@@ -1,3 +1,4 @@
+-- Laws of the rules, and their cases. Document 01, "Accounts", "Decisions" and "Error numbers".
 pub mod Accounts
 pub mod Names
 pub mod Checks

@@ -1,4 +1,4 @@
--- Laws of names: runs that agree, good bytes, and the search for an account.
+-- Laws of names: runs that agree, good bytes, and the search for an account. Document 01, "Accounts".
 -- Assumes nothing.
 use mathlib.Core.Path.{_≡_, refl, sym, ap, ap₂, _∙_}
 use mathlib.Core.Bool.{Bool, true, false, not, _&&_, cond, false≢true}

@@ -21,9 +21,11 @@ pub record Row : Type 0 where
   pub name : List ℕ
   pub account : Account
 
+-- the row of an account never set: it has no name
 abbrev pub noRow : Row
 noRow = record { name = []; account = neverSet }
 
+-- "The table of a moment": a row for each account number, from 0 on
 abbrev pub Table : Type 0
 Table = List Row
 
@@ -31,6 +33,7 @@ Table = List Row
 abbrev pub rowOf : Table → ℕ → Row
 rowOf a n = getD a n noRow
 
+-- the account of a number; one above 63 counts as never set
 abbrev pub account : Table → ℕ → Account
 account a n = rowOf a n .account
 
@@ -39,15 +42,19 @@ abbrev pub noAccounts : Table
 noAccounts = replicate 64 noRow
 
 -- "Flags: 1 disabled, 2 barred (DelegationNotAllowed), 4 trusted (TrustedToAuthenticationForDelegation), 8 service"
+-- flag 1: the account is disabled
 abbrev pub disabled : Account → Bool
 disabled x = bit (x .flags) 0
 
+-- flag 2: the account is barred (DelegationNotAllowed)
 abbrev pub barred : Account → Bool
 barred x = bit (x .flags) 1
 
+-- flag 4: the account is trusted (TrustedToAuthenticationForDelegation)
 abbrev pub trusted : Account → Bool
 trusted x = bit (x .flags) 2
 
+-- flag 8: the account is a service
 abbrev pub serves : Account → Bool
 serves x = bit (x .flags) 3
 
@@ -66,9 +73,11 @@ unfoldable pub nameAt : List ℕ → ℕ → ℕ → List ℕ
 nameAt w i zero = []
 nameAt w i (suc n) = nameAt w i n ++ (byteAt w i n ∷ [])
 
+-- the word of account n that holds the length of its name, its flags and its lifetime
 abbrev pub detailAt : List ℕ → ℕ → ℕ
 detailAt w n = getD w (6 * n + 3) 0
 
+-- the stored length of account n's name, the lowest byte of that word
 abbrev pub lengthAt : List ℕ → ℕ → ℕ
 lengthAt w n = detailAt w n % 256
 
@@ -76,6 +85,7 @@ lengthAt w n = detailAt w n % 256
 abbrev pub setLength : ℕ → Bool
 setLength n = leb 1 n && leb n 24
 
+-- the first of two rows where a test holds, such as that the account is set, else the second
 abbrev pub pickRow : Bool → Row → Row → Row
 pickRow true a b = a
 pickRow false a b = b

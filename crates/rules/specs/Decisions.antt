@@ -29,25 +29,32 @@ use Rattle.rules.specs.declared.decision.Moment.{Moment}
 use Rattle.rules.specs.declared.decision.Decision.{Decision}
 
 -- ---- Options and flags: FORWARDABLE 0x40000000, INITIAL 0x00400000, CNAME-IN-ADDL-TKT 0x00020000, resource-based 0x10000000
+-- the ticket has the flag FORWARDABLE, 0x40000000
 abbrev pub forwardable : Ticket → Bool
 forwardable t = bit (t .flags) 30
 
+-- FORWARDABLE is asked: the request has the option 0x40000000
 abbrev pub asksForwardable : Request → Bool
 asksForwardable q = bit (q .options) 30
 
+-- the request has the option CNAME-IN-ADDL-TKT, 0x00020000
 abbrev pub cnameInAddlTkt : Request → Bool
 cnameInAddlTkt q = bit (q .options) 17
 
+-- the request has the PAC option "resource-based 0x10000000"
 abbrev pub resourceBased : Request → Bool
 resourceBased q = bit (q .pac) 28
 
+-- the flags of a new ticket: "Flags issued: FORWARDABLE 0x40000000, INITIAL 0x00400000"
 abbrev pub flagsOf : Bool → Bool → ℕ
 flagsOf fwd ini = cond fwd 0x40000000 0 + cond ini 0x00400000 0
 
 -- ---- Checks by group, in the order of "Error numbers"
+-- the account is not disabled; one never set is
 abbrev pub enabled : Account → Bool
 enabled x = not (disabled x)
 
+-- the origin is initial: "An initial ticket is the ticket-granting ticket (TGT)"
 abbrev pub isInitial : Origin → Bool
 isInitial Initial = true
 isInitial (Direct t) = false
@@ -116,6 +123,7 @@ hopChecks x y q g e s =
 abbrev pub fullWindow : ℕ → ℕ → Window
 fullWindow clock lifetime = record { start = clock; end = min (clock + lifetime) 4294967295 }
 
+-- the first of two windows where a test holds, such as that till is 0, else the second
 abbrev pub pickWindow : Bool → Window → Window → Window
 pickWindow true a b = a
 pickWindow false a b = b
@@ -207,15 +215,19 @@ proxyTicket m g e s w =
     }
 
 -- ---- The decisions: the checks of each kind in their order, for the named account and its number
+-- kind 1: 52; names 6, 18; then 11, 29
 unfoldable pub initialChecks : Moment → Account → Window → List Check
 initialChecks m x w = roomCheck m ∷ (userChecks x ++ lastChecks m w)
 
+-- kind 2: 52; TGT 41, 35, 33, 32, 18; names 7; then 11, 29
 unfoldable pub directChecks : Table → Moment → Request → Held → Account → Window → List Check
 directChecks a m q h y w = (roomCheck m ∷ tgtChecks a m (q .tgt) h) ++ (serviceCheck y ∷ lastChecks m w)
 
+-- kind 3: 52; TGT 41, 35, 33, 32, 18; names 7, 6, 18; then 11, 29
 unfoldable pub selfChecks : Table → Moment → Request → Held → Account → Account → Window → List Check
 selfChecks a m q h x y w = (roomCheck m ∷ tgtChecks a m (q .tgt) h) ++ (selfCheck y ∷ (userChecks x ++ lastChecks m w))
 
+-- kind 4: 52; TGT 41, 35, 33, 32, 18; evidence 41, 33, 32, 26, 18; names 7; then 13, 61, 11, 29
 unfoldable pub proxyChecks : Table → Moment → Request → Held → Held → ℕ → Account → Account → Window → List Check
 proxyChecks a m q h k s x y w =
     ((roomCheck m ∷ tgtChecks a m (q .tgt) h) ++ evidenceChecks a m (q .evidence) k (q .tgt))
@@ -225,6 +237,7 @@ proxyChecks a m q h k s x y w =
 abbrev pub refusal : Answer → Decision
 refusal r = record { answer = r; ticket = blankTicket }
 
+-- the ticket where no check failed; else "Every refusal returns its number and no ticket"
 abbrev pub decided : Answer → Ticket → Decision
 decided Accepted t = record { answer = Accepted; ticket = t }
 decided (Refused e) t = refusal (Refused e)
@@ -233,6 +246,7 @@ decided (Refused e) t = refusal (Refused e)
 abbrev pub userOf : Table → List ℕ → Request → ℕ
 userOf a s q = findName a (partOf s (q .user))
 
+-- the same for the service name; in kind 4, "Service 2 is the named service and the ticket's"
 abbrev pub serviceOf : Table → List ℕ → Request → ℕ
 serviceOf a s q = findName a (partOf s (q .service))
 
@@ -268,5 +282,6 @@ decideKind kind.Direct a s q h k m = decideDirect a q h m (serviceOf a s q)
 decideKind kind.S4U2self a s q h k m = decideSelf a q h m (userOf a s q)
 decideKind kind.S4U2proxy a s q h k m = decideProxy a q h k m (serviceOf a s q)
 
+-- what a request is answered, by the rules of its own kind
 abbrev pub decide : Table → List ℕ → Request → Held → Held → Moment → Decision
 decide a s q h k m = decideKind (q .kind) a s q h k m

@@ -1,4 +1,5 @@
--- Edits: "An edit sets one account whole; the first fixes its name, byte for byte". Document 01, "Accounts", "The plain book" and "Error numbers" (60, 12, 8).
+-- Edits of accounts. Document 01, "Accounts", "The plain book" and "Error numbers" (60, 12, 8).
+-- "An edit sets one account whole; the first fixes its name, byte for byte."
 -- Assumes nothing.
 use Prim.Native.Nat.{ℕ}
 use mathlib.Core.Bool.{Bool, true, false, not, _&&_, _||_}
@@ -21,6 +22,7 @@ pub record Edit : Type 0 where
   pub receive : ℕ
   pub lifetime : ℕ
 
+-- the edit of a call that is given "an edit's number, name, flags, sets and lifetime"
 abbrev pub editOf : ℕ → List ℕ → ℕ → ℕ → ℕ → ℕ → Edit
 editOf n s f a b l = record { number = n; name = s; flags = f; send = a; receive = b; lifetime = l }
 

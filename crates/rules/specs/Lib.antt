@@ -1,3 +1,4 @@
+-- The definitions of the rules. Document 01, "Accounts", "Decisions" and "Error numbers".
 pub mod Accounts
 pub mod Names
 pub mod Checks

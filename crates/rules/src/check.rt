@@ -13,7 +13,7 @@ use record::Window;
 ghost use mathlib.Core.Path.{_≡_};
 ghost use mathlib.Core.List.{_∷_};
 ghost use Rattle.rules.specs.Accounts.{inSet, serves, barred, tableOf};
-ghost use Rattle.rules.specs.Checks.{pickAnswer, andThen, isAccepted, judge};
+ghost use Rattle.rules.specs.Checks.{pickAnswer, andThen, judge};
 ghost use Rattle.rules.specs.Decisions.{enabled, isInitial, isHeld, roomCheck, tgtChecks, evidenceChecks, serviceCheck, selfCheck, userChecks, lastChecks};
 
 // What comes after a check that holds, or its refusal.
@@ -30,16 +30,6 @@ pub fn and_then(first: Answer, second: Answer) -> Answer
     match first {
         Answer::Accepted => second,
         Answer::Refused(error) => Answer::Refused(error),
-    }
-}
-
-// Whether an answer is no refusal.
-pub fn is_accepted(answer: Answer) -> bool
-    ensures { λ r. ⌜ r ≡ isAccepted answer ⌝ }
-{
-    match answer {
-        Answer::Accepted => true,
-        Answer::Refused(_) => false,
     }
 }
 

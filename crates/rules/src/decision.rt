@@ -10,7 +10,6 @@ use crate::check::check_service;
 use crate::check::check_tgt;
 use crate::check::check_user;
 use crate::check::has_bit;
-use crate::check::is_accepted;
 use crate::check::is_barred;
 use crate::check::is_service;
 use crate::check::unless;
@@ -23,6 +22,7 @@ use record::Request;
 use record::Span;
 use record::Ticket;
 use record::Window;
+use record::is_accepted;
 ghost use mathlib.Core.Path.{_≡_};
 ghost use mathlib.Core.Bool.{_||_};
 ghost use mathlib.Core.List.{_∷_, _++_};
@@ -53,7 +53,7 @@ pub struct Decision {
 }
 
 // An answer that is a refusal, with a blank ticket.
-fn refuse(answer: Answer) -> Decision
+pub fn refuse(answer: Answer) -> Decision
     ensures { λ r. ⌜ r ≡ refusal answer ⌝ }
 {
     Decision {

@@ -1,5 +1,5 @@
-// Layer 2, the rules: accounts and names in words that the caller lends, edits, the checks and the four decisions
-// (document 01, "Accounts", "Decisions" and "Error numbers").
+// Layer 2, the rules: accounts and names, edits, the checks and the four decisions (document 01, "Accounts", "Decisions" and "Error numbers").
+// Accounts and names are in words that the caller lends.
 // This file holds the accounts' words; their offsets are seen nowhere else. A row has six words: three of name, eight bytes a word, the
 // lowest byte first; one of length, flags and lifetime; the send set; the receive set.
 mod check;
@@ -11,6 +11,7 @@ pub use decision::Decision;
 pub use decision::Held;
 pub use decision::Moment;
 pub use decision::decide;
+pub use decision::refuse;
 pub use edit::edit_account;
 pub use name::find_name;
 ghost use mathlib.Core.Path.{_≡_};

@@ -1,5 +1,6 @@
--- Laws of the calls: what a reading says of the answer and of the output, the bound on the length of a record that is written again, and
--- the ledger's promises in numbers.
+-- Laws of the exported calls. Document 01, "Ticket records", "Requests", "The plain book" and "Error numbers".
+-- What a reading says of the answer and of the output, the bound on the length of a record that is written again, and the ledger's promises
+-- in numbers.
 -- Assumes nothing.
 use Prim.Native.Nat.{ℕ, _≤_}
 use native.Mathlib.Omega.{arith}

@@ -1,5 +1,4 @@
--- What the exported functions answer, in numbers. Document 01, "Ticket records", "Requests", "The plain book" and
--- "Error numbers".
+-- What the exported functions answer, in numbers. Document 01, "Ticket records", "Requests", "The plain book" and "Error numbers".
 -- Assumes nothing.
 use Prim.Native.Nat.{ℕ}
 use mathlib.Core.List.{List, [], _∷_}
@@ -82,6 +81,7 @@ abbrev pub answerOf : Answer → Ticket → TicketsAnswer
 answerOf Accepted t = grant t
 answerOf (Refused e) t = refusal e
 
+-- the answer to a request by its decision: no error and the length of the ticket's record, or the refusal's number
 abbrev pub requestAnswer : Decision → TicketsAnswer
 requestAnswer d = answerOf (d .answer) (d .ticket)
 
@@ -90,6 +90,7 @@ abbrev pub replyWith : Decision → List ℕ → Reply
 replyWith d o = record { answer = d .answer; ticket = d .ticket; output = o }
 
 -- ---- A descent: its steps, or the refusal
+-- no error and the steps, or 41
 abbrev pub descentAnswer : Descended → TicketsAnswer
 descentAnswer (Steps n) = record { error = 0; value = n }
 descentAnswer (NoDescent e) = refusal e

@@ -15,13 +15,13 @@ returns c =
     let r = c .before .before .before .read-request in
     c .refuse .ensures
     ∙ request-unreadable (tableOf (now (a .accounts))) (ticketsOf (now (a .ledger))) (now (a .bytes)) (a .clock) (a .room) (r .result) (r .ensures)
-    (sym (c .before .before .accepts .ensures) ∙ not-true (c .before .before .accepts .result) (c .before .if1 .taken))
+    (sym (c .before .before .is-accepted .ensures) ∙ not-true (c .before .before .is-accepted .result) (c .before .if1 .taken))
 
 returns-2 : tie.Need-returns-2
 returns-2 c =
     let a = c .before .before .before .before .before .before .args in
     let r = c .before .before .before .before .read-request in
-    let y = c .before .before .before .accepts in
+    let y = c .before .before .before .is-accepted in
     c .refuse2 .ensures
     ∙ request-short (tableOf (now (a .accounts))) (ticketsOf (now (a .ledger))) (now (a .bytes)) (a .clock) (a .room) (r .result) (r .ensures)
     (sym (y .ensures) ∙ not-false (y .result) (c .before .before .if1 .left)) (c .before .if2 .taken)
@@ -30,7 +30,7 @@ returns-3 : tie.Need-returns-3
 returns-3 c =
     let a = c .before .before .before .before .before .before .before .before .before .before .before .before .before .args in
     let r = c .before .before .before .before .before .before .before .before .before .before .before .read-request in
-    let y = c .before .before .before .before .before .before .before .before .before .before .accepts in
+    let y = c .before .before .before .before .before .before .before .before .before .before .is-accepted in
     let n = c .before .count-held in
     let f = c .before .before .before .before .look-up in
     request-decided (tableOf (now (a .accounts))) (ticketsOf (now (a .ledger))) (now (a .bytes)) (a .clock) (a .room) (r .result) (r .ensures)
