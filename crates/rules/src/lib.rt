@@ -1,7 +1,7 @@
 // Layer 2, the rules: accounts and names, edits, the checks and the four decisions (document 01, "Accounts", "Decisions" and "Error numbers").
 // Accounts and names are in words that the caller lends.
-// This file holds the accounts' words; their offsets are seen nowhere else. A row has six words: three of name, eight bytes a word, the
-// lowest byte first; one of length, flags and lifetime; the send set; the receive set.
+// This file holds the accounts' words. A row has six: three of name, eight bytes a word, the lowest byte first; one of length, flags and
+// lifetime; the send set; the receive set. Beside it only the search by name (name.rt) and the storing of a row (edit.rt) see an offset.
 mod check;
 mod decision;
 mod edit;
