@@ -1,10 +1,11 @@
 # run: builds the program and starts it. test: all that must hold, ending in `rt ci`. library: proves and builds target/staticlib/libtickets.a.
-# bench: times the compiled library (docs/PERFORMANCE.md). valgrind: makes 20,000 of its calls under valgrind.
+# alone: the tests that need no library. bench: times the compiled library (docs/PERFORMANCE.md). valgrind: makes 20,000 of its calls under
+# valgrind.
 CARGO = cargo --quiet
 HARNESS = --offline --release --manifest-path harness/Cargo.toml
 LIBRARY = $(HARNESS) --features library
 PROGRAM = console
-.PHONY: run test bench library valgrind
+.PHONY: run test alone bench library valgrind
 
 run:
 	@mkdir -p target
@@ -13,12 +14,14 @@ run:
 
 test:
 	rt fmt --check
-	$(CARGO) test $(HARNESS)
-	$(CARGO) run $(HARNESS) --bin record_vectors | cmp - crates/record_vectors/stdout
-	@$(MAKE) --no-print-directory library
+	@$(MAKE) --no-print-directory --jobs=2 alone library
 	$(CARGO) test $(LIBRARY) --test library --test morning --test faults --test properties
 	$(CARGO) test $(LIBRARY) --test differential -- --nocapture
 	rt ci
+
+alone:
+	$(CARGO) test $(HARNESS)
+	$(CARGO) run $(HARNESS) --bin record_vectors | cmp - crates/record_vectors/stdout
 
 library:
 	@mkdir -p target

@@ -102,6 +102,17 @@ module _ (a : Table) (n : ℕ) (ns : List Note) (s : List ℕ) (m : Moment) (cou
     ends : (k : ℕ) → k ≤ g .window .end → k ≤ f .note .ticket .window .end
     ends k l = subst (λ (t : Ticket). k ≤ t .window .end) (sym (f .its-ticket)) l
 
+    on-tgt : (t : Ticket) → t .number ≡ m .count → t .window .end ≤ g .window .end → RestsOnTgt ns (noteOf t) (g .number) (g .client)
+    on-tgt t e l =
+        record {
+          tgt = f .note;
+          stands = f .stands;
+          falls = rw e (low (f .note) (f .member));
+          is-initial = its-origin;
+          its-client = ap (λ (t : Ticket). t .client) (f .its-ticket);
+          end = ends (t .window .end) l;
+        }
+
     good-direct : (sv : ℕ) (y : Account) → Good ns (noteOf (directTicket m asked g sv (account a (g .client)) (grantWindow m asked y g)))
     unfolding directTicket
     good-direct sv y =
@@ -109,15 +120,7 @@ module _ (a : Table) (n : ℕ) (ns : List Note) (s : List ℕ) (m : Moment) (cou
         record {
           quiet = direct-mark m asked g sv (account a (g .client)) (grantWindow m asked y g);
           unmarked = λ q. true-false q refl;
-          rests =
-              record {
-                tgt = f .note;
-                stands = f .stands;
-                falls = low (f .note) (f .member);
-                is-initial = its-origin;
-                its-client = ap (λ (t : Ticket). t .client) (f .its-ticket);
-                end = e;
-              };
+          rests = on-tgt _ refl (grant-end m asked y g);
           track =
               record {
                 passed = [];
@@ -139,15 +142,7 @@ module _ (a : Table) (n : ℕ) (ns : List Note) (s : List ℕ) (m : Moment) (cou
         record {
           quiet = self-mark m asked g u (account a u) y (grantWindow m asked y g);
           unmarked = λ q. true-false q refl;
-          rests =
-              record {
-                tgt = f .note;
-                stands = f .stands;
-                falls = low (f .note) (f .member);
-                is-initial = its-origin;
-                its-client = ap (λ (t : Ticket). t .client) (f .its-ticket);
-                end = e;
-              };
+          rests = on-tgt _ refl (grant-end m asked y g);
           track =
               record {
                 passed = [];

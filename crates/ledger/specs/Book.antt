@@ -1,5 +1,6 @@
 -- The plain book: a table, and a list of notes, each a ticket with its request and the table of its moment. Document 01, "The plain book".
--- It is fed the calls' arguments alone, of a request's output the length, and never sees a word of the service's memory.
+-- The plain book is the paper's term. It is fed the calls' arguments alone, decides by the output's length, and never sees a word of the
+-- service's memory; a reply's output is made from the bytes that the caller brought, since a grant leaves those behind the record.
 -- Assumes nothing.
 use mathlib.Core.List.{List, [], _∷_, _++_, map}
 use Prim.Native.Nat.{ℕ}

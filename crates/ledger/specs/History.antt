@@ -52,7 +52,7 @@ abbrev pub Promise : Service → Call → Reply → Service → Type 0
 Promise s (edit e) r s' = Edited s e r s'
 Promise s (request bytes clock o) r s' = Requested s bytes clock o r s'
 
--- the arguments fit their machine types, as those of every call of the code do: bytes, a 32-bit clock reading and lifetime
+-- what the theorem asks of a call's arguments, and every call of the code meets by its types: bytes, a 32-bit clock reading and lifetime
 abbrev pub CallFits : Call → Type 0
 CallFits (edit e) = Bytes (e .name) × (e .lifetime < 2 ^ 32)
 CallFits (request bytes clock o) = Bytes bytes × Fits w32 clock

@@ -1,4 +1,5 @@
--- The day total of a ledger. Document 01, "Error numbers", its last sentence.
+-- The day total of a ledger, the paper's term. Document 01, "Error numbers", its last sentence. It fits "64 bits": at most 512 tickets are
+-- held, and each counts less than 2 ^ 32.
 -- Assumes nothing.
 use Prim.Native.Nat.{ℕ, _+_, _-_}
 use mathlib.Core.List.{List, [], _∷_}

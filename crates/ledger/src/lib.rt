@@ -13,10 +13,10 @@ use record::Origin;
 use record::Ticket;
 use record::Window;
 use record::blank_ticket;
+use record::either;
 use rules::Held;
 ghost use mathlib.Core.Path.{_≡_};
 ghost use mathlib.Core.List.{[], _∷_};
-ghost use mathlib.Core.Bool.{_||_};
 ghost use Prim.Native.Nat.{_+_, _-_, _*_, _%_, _<_, _≤_};
 ghost use lib.Dec.{ltb};
 ghost use Rattle.record.specs.Fields.{pickList};
@@ -162,13 +162,6 @@ pub fn ticket_at(words: &LedgerWords, i: usize) -> Held
     } else {
         not_held()
     }
-}
-
-// Whether one of the two holds.
-fn either(a: bool, b: bool) -> bool
-    ensures { λ r. ⌜ r ≡ (a || b) ⌝ }
-{
-    if a { true } else { b }
 }
 
 // Whether the ticket at a place has a number.

@@ -17,19 +17,19 @@ use Rattle.record.specs.declared.request.Kind.the-variants as kind
 use Rattle.record.specs.declared.request.RequestReading.{RequestReading}
 
 -- the three lines' records
-abbrev record-0 : List ℕ
+abbrev pub record-0 : List ℕ
 record-0 = 0x00 ∷ 0x37 ∷ 0x00 ∷ 0x00 ∷ 0x00 ∷ 0x40 ∷ 0x00 ∷ 0x00 ∷ 0x01 ∷ 0x00 ∷ 0x00 ∷ 0x03 ∷ 0xe8 ∷ 0x00 ∷ 0x00 ∷ 0x90 ∷ 0x88 ∷ []
 
-abbrev record-1 : List ℕ
+abbrev pub record-1 : List ℕ
 record-1 = 0x04 ∷ 0x7f ∷ 0x00 ∷ 0x01 ∷ 0x40 ∷ 0x00 ∷ 0x00 ∷ 0x00 ∷ 0x00 ∷ 0x01 ∷ 0x00 ∷ 0x00 ∷ 0x03 ∷ 0xf2 ∷ 0x00 ∷ 0x00 ∷ 0x90 ∷ 0x88 ∷ 0x00 ∷ 0x00 ∷ []
 
-abbrev record-2 : List ℕ
+abbrev pub record-2 : List ℕ
 record-2 =
     0x01 ∷ 0xff ∷ 0x00 ∷ 0x02 ∷ 0x40 ∷ 0x00 ∷ 0x00 ∷ 0x00 ∷ 0x00 ∷ 0x02 ∷ 0x00 ∷ 0x00 ∷ 0x03 ∷ 0xfc ∷ 0x00 ∷ 0x00 ∷ 0x90 ∷ 0x88 ∷ 0x00 ∷ 0x00 ∷ 0x00 ∷ 0x01
     ∷ 0x01 ∷ 0x01 ∷ []
 
 -- the initial ticket of `web`
-abbrev ticket-0 : Ticket
+abbrev pub ticket-0 : Ticket
 ticket-0 =
     record {
       number = 0;
@@ -73,7 +73,10 @@ ticket-2 =
       barred = false;
     }
 
--- W1: kind 1 for `web`
+-- "W1: kind 1 `web` at 1000, bytes 00 41 01 03 77 65 62", and its request
+abbrev pub W1 : List ℕ
+W1 = 0x00 ∷ 0x41 ∷ 0x01 ∷ 0x03 ∷ 0x77 ∷ 0x65 ∷ 0x62 ∷ []
+
 abbrev request-W1 : RequestReading
 request-W1 =
     record {
@@ -98,7 +101,7 @@ pub record Morning : Type 0 where
   pub written-0 : recordOf ticket-0 ≡ record-0
   pub written-1 : recordOf ticket-1 ≡ record-1
   pub written-2 : recordOf ticket-2 ≡ record-2
-  pub request-1 : readRequest (0x00 ∷ 0x41 ∷ 0x01 ∷ 0x03 ∷ 0x77 ∷ 0x65 ∷ 0x62 ∷ []) ≡ request-W1
+  pub request-1 : readRequest W1 ≡ request-W1
 
 pub morning : Morning
 unfolding presentIn numberAt bigEndian run sizeAt offsetOf fieldOf fieldBytes knownMap hopsFit readableAs originAs trailOf readTicket pairBytes headBytes trailBytes tailBytes recordAs mapFits pathOf embeddedOf wholeRequest requestFor readRequest

@@ -14,7 +14,7 @@ pub record Decides (r : Bool) (P : Type 0) : Type 0 where
   pub sound : r ≡ true → P
   pub complete : P → r ≡ true
 
--- the fields of a ticket that are plain numbers, and the barred mark
+-- two tickets have the same number, flags, client, service and barred mark
 pub record SameHead (a b : Ticket) : Type 0 where
   pub number : a .number ≡ b .number
   pub flags : a .flags ≡ b .flags

@@ -26,7 +26,7 @@ numberOf «KRB_ERR_RESPONSE_TOO_BIG» = 52
 numberOf «KRB_ERR_GENERIC» = 60
 numberOf «KRB_ERR_FIELD_TOOLONG» = 61
 
--- the number of an answer: 0 where a value was read
+-- the number of an answer: 0 where it is no refusal
 abbrev pub answerNumber : Answer → ℕ
 answerNumber Accepted = 0
 answerNumber (Refused e) = numberOf e

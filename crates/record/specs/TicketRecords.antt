@@ -22,7 +22,8 @@ use Rattle.record.specs.declared.writer.Written.{Written}
 use Rattle.record.specs.declared.writer.Written.the-variants.{Length, Refused as Unwritten}
 
 -- 0 number (16 bits), 1 flags (32), 2 client (8), 3 service (8), 4 start (32), 5 end (32), 6 number of the TGT used (16),
--- 7 evidence number (16), 8 trail (one byte n, then n account numbers); 9 barred mark and 10 self mark have no bytes
+-- 7 evidence number (16), 8 trail (one byte n, then n account numbers); 9 barred mark and 10 self mark have no bytes.
+-- Trail, barred mark and self mark are the paper's terms
 abbrev pub ticketLayout : Layout
 ticketLayout = record { widths = 2 ∷ 4 ∷ 1 ∷ 1 ∷ 4 ∷ 4 ∷ 2 ∷ 2 ∷ 1 ∷ []; counted = 8 }
 

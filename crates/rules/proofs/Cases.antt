@@ -18,6 +18,7 @@ use Rattle.record.specs.declared.request.Kind.{Kind}
 use Rattle.record.specs.declared.request.Kind.the-variants as kind
 use Rattle.record.specs.declared.request.Span.{Span}
 use Rattle.record.specs.declared.request.Request.{Request}
+use Rattle.record.proofs.Cases.{ticket-0 as tgt}
 use Rattle.rules.specs.Accounts.{bit, Row, noRow, Table, noAccounts}
 use Rattle.rules.specs.Names.{goodBytes, goodName, lower, agree, sameName, numberFrom, taken}
 use Rattle.rules.specs.Edits.{Edit, editOf, editRow, editChecks, editAnswer, edited}
@@ -27,13 +28,13 @@ use Rattle.rules.specs.declared.decision.Moment.{Moment}
 use Rattle.rules.specs.declared.decision.Decision.{Decision}
 
 -- the names of the morning
-abbrev tech : List ℕ
+abbrev pub tech : List ℕ
 tech = 0x74 ∷ 0x65 ∷ 0x63 ∷ 0x68 ∷ []
 
-abbrev web : List ℕ
+abbrev pub web : List ℕ
 web = 0x77 ∷ 0x65 ∷ 0x62 ∷ []
 
-abbrev store : List ℕ
+abbrev pub store : List ℕ
 store = 0x73 ∷ 0x74 ∷ 0x6f ∷ 0x72 ∷ 0x65 ∷ []
 
 -- "0 `tech` flags 0; 1 `web` flags 12, send 0x4; 2 `store` flags 8; other sets 0, lifetimes 36000", with the sets and the flags of `tech` as given
@@ -42,21 +43,7 @@ accounts flags send receive =
     editRow (editOf 0 tech flags 0 0 36000) ∷ editRow (editOf 1 web 12 send 0 36000) ∷ editRow (editOf 2 store 8 0 receive 36000)
     ∷ replicate 61 noRow
 
--- the TGT of `web`, and evidence of `tech` to `web`, direct or self, with or without FORWARDABLE and the mark
-abbrev tgt : Ticket
-tgt =
-    record {
-      number = 0;
-      flags = 0x00400000;
-      client = 1;
-      service = 0;
-      window = record { start = 1000; end = 37000 };
-      origin = Initial;
-      trail = replicate 8 0;
-      hops = 0;
-      barred = false;
-    }
-
+-- evidence of `tech` to `web`, direct or self, with or without FORWARDABLE and the mark; the TGT is the morning's first ticket
 abbrev evidence : Origin → Bool → Bool → Ticket
 evidence o fwd mark =
     record {

@@ -65,7 +65,7 @@ isInitial (Delegated t e) = false
 abbrev pub isHeld : Held → Ticket → Bool
 isHeld h t = h .found && sameTicket (h .ticket) t
 
--- 52
+-- 52: "output under 31 bytes"
 abbrev pub roomCheck : Moment → Check
 roomCheck m = check (leb 31 (m .room)) «KRB_ERR_RESPONSE_TOO_BIG»
 
@@ -96,7 +96,7 @@ selfCheck x = check (serves x) «KDC_ERR_S_PRINCIPAL_UNKNOWN»
 unfoldable pub userChecks : Account → List Check
 userChecks x = check (x .known) «KDC_ERR_C_PRINCIPAL_UNKNOWN» ∷ check (enabled x) «KDC_ERR_CLIENT_REVOKED» ∷ []
 
--- 11, 29
+-- 11: "end ≤ now"; 29: "512 tickets or more held"
 unfoldable pub lastChecks : Moment → Window → List Check
 lastChecks m w = check (ltb (m .clock) (w .end)) «KDC_ERR_NEVER_VALID» ∷ check (ltb (m .count) 512) «KDC_ERR_SVC_UNAVAILABLE» ∷ []
 
@@ -113,7 +113,7 @@ resourceRoute y q g e = resourceBased q && (inSet (y .receive) (g .client) && no
 unfoldable pub permitted : Account → Account → Request → Ticket → Ticket → ℕ → Bool
 permitted x y q g e s = cnameInAddlTkt q && (classicRoute x e s || resourceRoute y q g e)
 
--- 13, 61
+-- 13: "no route, or option missing"; 61: "evidence trail already 8"
 unfoldable pub hopChecks : Account → Account → Request → Ticket → Ticket → ℕ → List Check
 hopChecks x y q g e s =
     check (permitted x y q g e s) «KDC_ERR_BADOPTION» ∷ check (ltb (e .hops) 8) «KRB_ERR_FIELD_TOOLONG» ∷ []

@@ -2,7 +2,6 @@
 use crate::Account;
 use crate::AccountWords;
 use crate::account_at;
-use crate::both;
 use crate::decision::Held;
 use crate::decision::Moment;
 use record::Answer;
@@ -10,6 +9,7 @@ use record::Error;
 use record::Origin;
 use record::Ticket;
 use record::Window;
+use record::both;
 ghost use mathlib.Core.Path.{_≡_};
 ghost use mathlib.Core.List.{_∷_};
 ghost use Rattle.rules.specs.Accounts.{inSet, serves, barred, tableOf};

@@ -2,7 +2,6 @@
 use crate::Account;
 use crate::AccountWords;
 use crate::account_at;
-use crate::both;
 use crate::check::and_then;
 use crate::check::check_evidence;
 use crate::check::check_last;
@@ -22,9 +21,10 @@ use record::Request;
 use record::Span;
 use record::Ticket;
 use record::Window;
+use record::both;
+use record::either;
 use record::is_accepted;
 ghost use mathlib.Core.Path.{_≡_};
-ghost use mathlib.Core.Bool.{_||_};
 ghost use mathlib.Core.List.{_∷_, _++_};
 ghost use Prim.Native.Nat.{_<_, _≤_};
 ghost use Rattle.record.specs.Requests.{partOf};
@@ -150,13 +150,6 @@ fn hop_window(m: Moment, q: Request, service: Account, tgt: Ticket, evidence: Ti
     let w = evidence.window;
     let full = full_window(m.clock, service.lifetime);
     wish(q.till, full.until(v.end).until(w.end))
-}
-
-// Whether one of the two holds.
-fn either(a: bool, b: bool) -> bool
-    ensures { λ r. ⌜ r ≡ (a || b) ⌝ }
-{
-    if a { true } else { b }
 }
 
 // Whether option CNAME-IN-ADDL-TKT stands and a route holds, classic or resource-based.

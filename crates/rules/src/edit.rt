@@ -2,7 +2,6 @@
 use crate::Account;
 use crate::AccountWords;
 use crate::account_at;
-use crate::both;
 use crate::count_words;
 use crate::name::good_name;
 use crate::name::has_name;
@@ -11,6 +10,7 @@ use crate::pack;
 use crate::put_row;
 use record::Answer;
 use record::Error;
+use record::both;
 use record::is_accepted;
 ghost use mathlib.Core.Path.{_≡_};
 ghost use Prim.Native.Nat.{ℕ, _<_, _≤_};

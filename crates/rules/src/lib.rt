@@ -14,11 +14,12 @@ pub use decision::decide;
 pub use decision::refuse;
 pub use edit::edit_account;
 pub use name::find_name;
+use record::both;
+use record::byte;
 ghost use mathlib.Core.Path.{_≡_};
-ghost use mathlib.Core.Bool.{_&&_};
 ghost use mathlib.Core.List.{[], _∷_};
 ghost use Prim.Native.Nat.{_+_, _*_, _<_, _≤_};
-ghost use lib.ListN.{length, getD, replicate};
+ghost use lib.ListN.{length, replicate};
 ghost use Rattle.rules.specs.Accounts.{neverSet, Row, rowAt, account, tableOf, noAccounts, setLength, lengthAt, byteAt, packAt, putRow, storeRow};
 
 pub const ACCOUNTS: usize = 384;
@@ -33,20 +34,6 @@ pub struct Account {
     pub send: u64,
     pub receive: u64,
     pub lifetime: u32,
-}
-
-// Whether both hold.
-fn both(a: bool, b: bool) -> bool
-    ensures { λ r. ⌜ r ≡ (a && b) ⌝ }
-{
-    if a { b } else { false }
-}
-
-// The byte at a position, 0 past the end.
-fn byte(bytes: &[u8], at: usize) -> u8
-    ensures { λ r. ⌜ r ≡ getD (now (bytes .entry)) at 0 ⌝ }
-{
-    if at < bytes.len() { bytes[at] } else { 0 }
 }
 
 // How many words are lent.

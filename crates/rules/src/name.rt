@@ -1,20 +1,20 @@
 // Names: which are good, which match, and which account a name stands for (document 01, "Accounts").
 use crate::AccountWords;
-use crate::both;
 use crate::byte_at;
 use crate::length_at;
 use crate::pack;
 use crate::set_length;
+use record::both;
 ghost use mathlib.Core.Path.{_≡_};
-ghost use mathlib.Core.Bool.{true, false, _&&_};
+ghost use mathlib.Core.Bool.{true, false};
 ghost use mathlib.Core.List.{List};
 ghost use Prim.Native.Nat.{ℕ, _+_, _*_, _<_, _≤_};
 ghost use lib.ListN.{length, getD};
 ghost use lib.Dec.{eqb};
 ghost use lib.Bits.{bitAnd};
 ghost use Rattle.record.specs.Fields.{Bytes};
-ghost use Rattle.rules.specs.Accounts.{rowOf, tableOf, nameAt};
-ghost use Rattle.rules.specs.Names.{goodByte, goodName, lower, folded, agree, sameName, findName, taken, named, lowsFrom, traceOf};
+ghost use Rattle.rules.specs.Accounts.{tableOf, nameAt};
+ghost use Rattle.rules.specs.Names.{goodByte, goodName, lower, folded, agree, findName, taken, named, lowsFrom, traceOf};
 
 // Whether a byte may stand in a name.
 fn good_byte(c: u8) -> bool

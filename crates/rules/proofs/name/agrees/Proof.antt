@@ -1,11 +1,13 @@
 use mathlib.Core.Path.{_≡_, refl, sym, ap, _∙_}
-use Prim.Native.Nat.{ℕ, _+_, _*_, _≤_, _-_}
+use mathlib.Core.Bool.{Bool}
+use mathlib.Core.List.{List}
+use Prim.Native.Nat.{ℕ, _+_, _*_, _<_, _≤_, _-_}
 use native.Mathlib.Omega.{arith}
 use lib.ListN.{length, getD}
 use lib.Dec.{eqb}
 use denote.Ref.{now}
 use borrow.Author.Tests.{not-true, not-false}
-use Rattle.rules.specs.Accounts.{nameAt}
+use Rattle.rules.specs.Accounts.{byteAt, nameAt}
 use Rattle.rules.specs.Names.{folded, agree}
 use Rattle.rules.proofs.Accounts.{name-byte}
 use Rattle.rules.proofs.Names.{agree-stop, agree-back}
@@ -23,33 +25,33 @@ abbrev μ-loop : tie.MeasureT-loop
 loop-holds : tie.Need-loop-holds Inv-loop μ-loop
 loop-holds c = (search needs, refl)
 
+-- what was found of byte i, of the row's name as the definition has it
+found : (w s : List ℕ) (n i x : ℕ) (f b : Bool) → i < length s → x ≡ byteAt w (6 * n) i → b ≡ eqb (folded f x) (folded f (getD s i 0))
+    → eqb (folded f (getD (nameAt w (6 * n) (length s)) i 0)) (folded f (getD s i 0)) ≡ b
+found w s n i x f b l e h = ap (λ (y : ℕ). eqb (folded f y) (folded f (getD s i 0))) (name-byte w (6 * n) (length s) i l ∙ sym e) ∙ sym h
+
 returns : tie.Need-returns Inv-loop μ-loop
 returns c =
     let a = c .before .before .before .before .before .before .before .args in
-    let s = now (a .name) in
-    let w = now (a .words) in
     let l = c .before .before .before .before .before .loop in
     let b = c .before .before .before .byte-at in
+    let y = c .before .same-byte in
     let i = l .i - 1 in
-    let e : getD (nameAt w (6 * a .n) (length s)) i 0 ≡ b .result = name-byte w (6 * a .n) (length s) i (omega arith) ∙ sym (b .ensures) in
     let j : l .i ≡ i + 1 = omega arith in
-    sym (l .inv .1 ∙ rw j (agree-stop (a .ignore) (nameAt w (6 * a .n) (length s)) s i
-    (ap (λ (x : ℕ). eqb (folded (a .ignore) x) (folded (a .ignore) (getD s i 0))) e ∙ sym (c .before .same-byte .ensures) ∙ not-true (c .before .same-byte .result) (c .if1 .taken))))
+    let d = found (now (a .words)) (now (a .name)) (a .n) i (b .result) (a .ignore) (y .result) (omega arith) (b .ensures) (y .ensures) ∙ not-true (y .result) (c .if1 .taken) in
+    sym (l .inv .1 ∙ rw j (agree-stop (a .ignore) (nameAt (now (a .words)) (6 * a .n) (length (now (a .name)))) (now (a .name)) i d))
 
 loop-again : tie.Need-loop-again Inv-loop μ-loop
 loop-again c =
     let a = c .before .before .before .before .before .before .before .args in
-    let s = now (a .name) in
-    let w = now (a .words) in
     let l = c .before .before .before .before .before .loop in
     let b = c .before .before .before .byte-at in
+    let y = c .before .same-byte in
     let i = l .i - 1 in
-    let e : getD (nameAt w (6 * a .n) (length s)) i 0 ≡ b .result = name-byte w (6 * a .n) (length s) i (omega arith) ∙ sym (b .ensures) in
-    let j : l .i ≡ i + 1 = omega arith in (
-      search needs,
-      l .inv .1 ∙ ap (agree (a .ignore) (nameAt w (6 * a .n) (length s)) s) j ∙ agree-back (a .ignore) (nameAt w (6 * a .n) (length s)) s i
-          (ap (λ (x : ℕ). eqb (folded (a .ignore) x) (folded (a .ignore) (getD s i 0))) e ∙ sym (c .before .same-byte .ensures) ∙ not-false (c .before .same-byte .result) (c .if1 .left)),
-    )
+    let j : l .i ≡ i + 1 = omega arith in
+    let d = found (now (a .words)) (now (a .name)) (a .n) i (b .result) (a .ignore) (y .result) (omega arith) (b .ensures) (y .ensures) ∙ not-false (y .result) (c .if1 .left) in
+    let t = agree (a .ignore) (nameAt (now (a .words)) (6 * a .n) (length (now (a .name)))) (now (a .name)) in
+    (search needs, l .inv .1 ∙ ap t j ∙ agree-back (a .ignore) (nameAt (now (a .words)) (6 * a .n) (length (now (a .name)))) (now (a .name)) i d)
 
 returns-2 : tie.Need-returns-2 Inv-loop μ-loop
 unfolding agree
