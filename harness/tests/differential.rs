@@ -12,10 +12,13 @@ const SEEDS: [u64; 2] = [0x7469_636B_0000_0000, 0x7469_636B_8000_0000];
 /// How many calls each thread makes at least.
 const CALLS: u64 = 1_000_000;
 
+/// After how many of them, at least, the states are compared in full each time.
+const IN_FULL: u64 = 500_000;
+
 #[test]
 fn both_sides_answer_alike() {
     let start = Instant::now();
-    let threads = SEEDS.map(|seed| thread::spawn(move || run(seed, CALLS)));
+    let threads = SEEDS.map(|seed| thread::spawn(move || run(seed, CALLS, IN_FULL)));
     let mut tally = Tally::default();
     for thread in threads {
         match thread.join().expect("a history runs to its end") {

@@ -9,7 +9,7 @@ const CALLS: u64 = 20_000;
 
 /// Ends with an error where the two differ.
 fn main() -> Result<(), String> {
-    let tally = run(SEED, CALLS)?;
+    let tally = run(SEED, CALLS, 0)?;
     println!("{} calls, {} granted: both sides alike", tally.calls, tally.granted);
     Ok(())
 }

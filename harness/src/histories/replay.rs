@@ -212,16 +212,18 @@ pub fn replay(history: &History, rhythm: usize, tally: &mut Tally) -> Result<(),
     end.map_err(|what| Failure { at: history.calls.len().saturating_sub(1), what, granted })
 }
 
-/// Replays the histories of the seeds from this one on, so many calls at least. On a difference the
+/// Replays the histories of the seeds from this one on, so many calls at least; in the first of them,
+/// `in_full` calls at least, the states are compared in full after each call. On a difference the
 /// answer is the seed and the shortest history found that still shows one.
-pub fn run(seed: u64, calls: u64) -> Result<Tally, String> {
+pub fn run(seed: u64, calls: u64, in_full: u64) -> Result<Tally, String> {
     let mut tally = Tally::default();
     for seed in seed.. {
         if tally.calls >= calls {
             break;
         }
         let history = generate(seed);
-        if let Err(failure) = replay(&history, RHYTHM, &mut tally) {
+        let rhythm = if tally.calls < in_full { 1 } else { RHYTHM };
+        if let Err(failure) = replay(&history, rhythm, &mut tally) {
             return Err(shrink::report(history, failure));
         }
     }
