@@ -1,11 +1,14 @@
-# run: builds the program and starts it. test: all that must hold, ending in `rt ci`. library: proves and builds target/staticlib/libtickets.a.
-# alone: the tests that need no library. bench: times the compiled library (docs/PERFORMANCE.md). valgrind: makes 20,000 of its calls under
-# valgrind.
+# run: builds the program and starts it. test: all that must hold; the harness runs on a copy of the tree beside `rt ci`, which starts from
+# nothing and would remove the library under it, and the closing line of `rt ci` comes last. library: proves and builds
+# target/staticlib/libtickets.a. harness: its tests; alone: those that need no library. bench: times the compiled library
+# (docs/PERFORMANCE.md). valgrind: makes 20,000 of its calls under valgrind.
+SHELL = bash
+.SHELLFLAGS = -o pipefail -ec
 CARGO = cargo --quiet
 HARNESS = --offline --release --manifest-path harness/Cargo.toml
 LIBRARY = $(HARNESS) --features library
 PROGRAM = console
-.PHONY: run test alone bench library valgrind
+.PHONY: run test harness alone bench library valgrind
 
 run:
 	@mkdir -p target
@@ -14,14 +17,21 @@ run:
 
 test:
 	rt fmt --check
+	@copy=$$(mktemp -d); trap 'kill $$! 2>/dev/null || :; rm -rf "$$copy"' EXIT; cp -R Makefile crates crates.txt harness include "$$copy"; \
+	$(MAKE) --no-print-directory -C "$$copy" harness >"$$copy/harness.log" 2>&1 & \
+	rt ci | tee "$$copy/ci.log"; \
+	wait $$! || { cat "$$copy/harness.log"; exit 1; }; \
+	cat "$$copy/harness.log"; tail -n 1 "$$copy/ci.log"
+
+harness:
 	@$(MAKE) --no-print-directory --jobs=2 alone library
 	$(CARGO) test $(LIBRARY) --test library --test morning --test faults --test properties
 	$(CARGO) test $(LIBRARY) --test differential -- --nocapture
-	rt ci
 
 alone:
 	$(CARGO) test $(HARNESS)
-	$(CARGO) run $(HARNESS) --bin record_vectors | cmp - crates/record_vectors/stdout
+	$(CARGO) run $(HARNESS) --bin record_vectors stdin | cmp - crates/record_vectors/stdin
+	$(CARGO) run $(HARNESS) --bin record_vectors stdout | cmp - crates/record_vectors/stdout
 
 library:
 	@mkdir -p target

@@ -14,12 +14,12 @@
 //
 // Words are parted by one space. Numbers are decimal, or hexadecimal after 0x; bytes are hexadecimal, `-` for none; a name is as it is.
 // A line that is no call changes nothing, and is answered by `? LINE: what is wrong`.
-use ledger::Descended;
+use definitions::Descended;
+use definitions::Ticket;
+use definitions::Written;
 use ledger::LedgerWords;
 use libc::STDIN_FILENO;
 use libc::STDOUT_FILENO;
-use record::Ticket;
-use record::Written;
 use rules::AccountWords;
 ghost use Prim.Native.Nat.{_≤_};
 

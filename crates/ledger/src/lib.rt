@@ -2,29 +2,31 @@
 // This file holds the ledger's words; their offsets are seen nowhere else. The first word is the count. Each of 512 places has four words:
 // number, client, service and flags; start and end; the origin's tag, barred mark, hops and back numbers; the trail, its first byte lowest.
 mod call;
+mod search;
+mod steps;
 
-pub use call::Descended;
 pub use call::demand_3;
-pub use call::descent;
 pub use call::edit;
 pub use call::fresh;
 pub use call::request;
-use record::Origin;
-use record::Ticket;
-use record::Window;
+use definitions::Held;
+use definitions::Origin;
+use definitions::Ticket;
+use definitions::Window;
 use record::blank_ticket;
 use record::either;
-use rules::Held;
+pub use steps::descent;
+ghost use mathlib.Core.Bool.{cond};
 ghost use mathlib.Core.Path.{_≡_};
 ghost use mathlib.Core.List.{[], _∷_};
 ghost use Prim.Native.Nat.{_+_, _-_, _*_, _%_, _<_, _≤_};
 ghost use lib.Dec.{ltb};
-ghost use Rattle.record.specs.Fields.{pickList};
-ghost use Rattle.record.specs.TicketRecords.{tgtOf, evidenceOf};
-ghost use Rattle.rules.specs.Accounts.{packAt, putRow};
-ghost use Rattle.ledger.specs.Words.{originIn, ticketIn, ticketAt, countOf, ticketsFrom, ticketsOf, tagOf, markOf, ticketWords, storeTicket, noTickets};
-ghost use Rattle.ledger.specs.Places.{heldTicket, notHeld, heldAt, firstOf, hasNumber, among};
-ghost use Rattle.ledger.specs.Totals.{spanOf, dayTotal};
+ghost use Rattle.definitions.specs.TicketRecords.{tgtOf, evidenceOf};
+ghost use Rattle.definitions.specs.Accounts.{packAt, putRow};
+ghost use Rattle.definitions.specs.Words.{originIn, ticketIn, ticketAt, countOf, ticketsFrom, ticketsOf, tagOf, markOf, ticketWords, storeTicket, noTickets};
+ghost use Rattle.definitions.specs.Places.{heldTicket, notHeld, heldAt, firstOf};
+ghost use Rattle.definitions.specs.Search.{hasNumber, amongPlaces};
+ghost use Rattle.definitions.specs.Totals.{secondsOf, dayTotal};
 
 pub const LEDGER: usize = 2049;
 
@@ -124,7 +126,7 @@ fn number_at(words: &LedgerWords, i: usize) -> u16
 // How long the ticket at a place is valid, 0 where its end is not later than its start.
 fn span_at(words: &LedgerWords, i: usize) -> u64
     requires { ⌜ i < 512 ⌝ }
-    ensures exact { λ r. ⌜ r ≡ spanOf (ticketAt (now (words .entry)) i .window) ⌝ }
+    ensures exact { λ r. ⌜ r ≡ secondsOf (ticketAt (now (words .entry)) i .window) ⌝ }
     ensures bounded { λ r. ⌜ r < 4294967296 ⌝ }
 {
     let word = words[4 * i + 2];
@@ -175,7 +177,7 @@ fn has_number(words: &LedgerWords, i: usize, number: u16) -> bool
 // The same of two places, of four, of eight and of sixteen: tests without branches, so that many places cost little more than one.
 fn among_two(words: &LedgerWords, i: usize, number: u16) -> bool
     requires { ⌜ i + 2 ≤ 512 ⌝ }
-    ensures { λ r. ⌜ r ≡ among (now (words .entry)) number i 2 ⌝ }
+    ensures { λ r. ⌜ r ≡ amongPlaces (now (words .entry)) number i 2 ⌝ }
 {
     either(
         has_number(words, i, number),
@@ -185,14 +187,14 @@ fn among_two(words: &LedgerWords, i: usize, number: u16) -> bool
 
 fn among_four(words: &LedgerWords, i: usize, number: u16) -> bool
     requires { ⌜ i + 4 ≤ 512 ⌝ }
-    ensures { λ r. ⌜ r ≡ among (now (words .entry)) number i 4 ⌝ }
+    ensures { λ r. ⌜ r ≡ amongPlaces (now (words .entry)) number i 4 ⌝ }
 {
     either(among_two(words, i, number), among_two(words, i + 2, number))
 }
 
 fn among_eight(words: &LedgerWords, i: usize, number: u16) -> bool
     requires { ⌜ i + 8 ≤ 512 ⌝ }
-    ensures { λ r. ⌜ r ≡ among (now (words .entry)) number i 8 ⌝ }
+    ensures { λ r. ⌜ r ≡ amongPlaces (now (words .entry)) number i 8 ⌝ }
 {
     either(
         among_four(words, i, number),
@@ -202,7 +204,7 @@ fn among_eight(words: &LedgerWords, i: usize, number: u16) -> bool
 
 fn among_sixteen(words: &LedgerWords, i: usize, number: u16) -> bool
     requires { ⌜ i + 16 ≤ 512 ⌝ }
-    ensures { λ r. ⌜ r ≡ among (now (words .entry)) number i 16 ⌝ }
+    ensures { λ r. ⌜ r ≡ amongPlaces (now (words .entry)) number i 16 ⌝ }
 {
     either(
         among_eight(words, i, number),
@@ -227,7 +229,7 @@ fn skip(words: &LedgerWords, from: usize, n: usize, a: u16, b: u16) -> usize
     i
 }
 
-// The first ticket of a number among the places from one on to n.
+// The first ticket of a number amongPlaces the places from one on to n.
 fn find_from(words: &LedgerWords, from: usize, n: usize, number: u16) -> Held
     requires { ⌜ (from ≤ n) × (n ≤ 512) ⌝ }
     ensures { λ r. ⌜ r ≡ firstOf (ticketsFrom (now (words .entry)) from (n - from)) number ⌝ }
@@ -351,7 +353,7 @@ fn put_ticket(words: &mut LedgerWords, i: usize, t: Ticket)
 // Stores a ticket behind those held, unless 512 are; tells whether it did.
 fn store_ticket(words: &mut LedgerWords, t: Ticket) -> bool
     ensures told { λ r. ⌜ r ≡ ltb (countOf (now (words .entry))) 512 ⌝ }
-    ensures stored { λ _. ⌜ now (words .exit) ≡ pickList (ltb (countOf (now (words .entry))) 512) (storeTicket (now (words .entry)) t) (now (words .entry)) ⌝ }
+    ensures stored { λ _. ⌜ now (words .exit) ≡ cond (ltb (countOf (now (words .entry))) 512) (storeTicket (now (words .entry)) t) (now (words .entry)) ⌝ }
 {
     let n = count_held(words);
     if n < 512 {

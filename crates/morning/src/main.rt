@@ -1,12 +1,12 @@
 // The morning of document 01, "Hops and a morning": three accounts, and the requests W1 to W4 made of the records that were answered.
 // Prints a line for each request: its kind, the error number (0 granted), and the record in hexadecimal, or `-`.
+use definitions::Answer;
+use definitions::Decision;
+use definitions::Ticket;
+use definitions::Written;
 use ledger::LedgerWords;
 use libc::STDOUT_FILENO;
-use record::Answer;
-use record::Ticket;
-use record::Written;
 use rules::AccountWords;
-use rules::Decision;
 ghost use Prim.Native.Nat.{_+_, _≤_};
 ghost use lib.ListN.{length};
 

@@ -1,13 +1,13 @@
 // Whether two tickets are equal in every field (document 01, "Decisions").
 use crate::both;
-use crate::ticket::Origin;
-use crate::ticket::Ticket;
 use crate::ticket::evidence_of;
 use crate::ticket::origin_map;
 use crate::ticket::tgt_of;
-use crate::window::Window;
+use definitions::Origin;
+use definitions::Ticket;
+use definitions::Window;
 ghost use mathlib.Core.Path.{_≡_};
-ghost use Rattle.record.specs.Equality.{Decides, SameHead};
+ghost use Rattle.definitions.specs.Equality.{Decides, SameHead};
 
 // Whether two windows are equal.
 fn same_window(a: Window, b: Window) -> bool

@@ -1,31 +1,8 @@
-// The refusals, by RFC 4120's names (document 01, "Error numbers").
+// The numbers of refusals and answers (document 01, "Error numbers").
+use definitions::Answer;
+use definitions::Error;
 ghost use mathlib.Core.Path.{_≡_};
-ghost use Rattle.record.specs.Errors.{isAccepted, numberOf, answerNumber};
-
-pub enum Error {
-    KDC_ERR_C_PRINCIPAL_UNKNOWN,
-    KDC_ERR_S_PRINCIPAL_UNKNOWN,
-    KDC_ERR_PRINCIPAL_NOT_UNIQUE,
-    KDC_ERR_NEVER_VALID,
-    KDC_ERR_POLICY,
-    KDC_ERR_BADOPTION,
-    KDC_ERR_CLIENT_REVOKED,
-    KDC_ERR_SERVER_NOMATCH,
-    KDC_ERR_SVC_UNAVAILABLE,
-    KRB_AP_ERR_TKT_EXPIRED,
-    KRB_AP_ERR_TKT_NYV,
-    KRB_AP_ERR_NOT_US,
-    KRB_AP_ERR_MODIFIED,
-    KRB_ERR_RESPONSE_TOO_BIG,
-    KRB_ERR_GENERIC,
-    KRB_ERR_FIELD_TOOLONG,
-}
-
-// What a reader answers; the value that it read stands beside it.
-pub enum Answer {
-    Accepted,
-    Refused(Error),
-}
+ghost use Rattle.definitions.specs.Errors.{isAccepted, numberOf, answerNumber};
 
 // Whether an answer is no refusal.
 pub fn is_accepted(answer: Answer) -> bool

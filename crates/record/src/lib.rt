@@ -1,44 +1,29 @@
-// Layer 1, the record layer: ticket values, ticket records and requests (document 01, "Ticket records" and "Requests").
+// Layer 1, the record layer: ticket records and requests (document 01, "Ticket records" and "Requests").
 // This file holds what both records are made of: a 16-bit map, and the fields of its bits, taken one after the other at a cursor.
 mod compare;
 mod errors;
 mod reader;
 mod request;
 mod ticket;
-mod window;
 mod writer;
 
 pub use compare::same_ticket;
-pub use errors::Answer;
-pub use errors::Error;
+use definitions::Field;
 pub use errors::answer_number;
 pub use errors::error_number;
 pub use errors::is_accepted;
-pub use reader::Reading;
 pub use reader::read_ticket;
-pub use request::Kind;
-pub use request::Request;
-pub use request::RequestReading;
-pub use request::Span;
 pub use request::read_request;
-pub use ticket::Origin;
-pub use ticket::Ticket;
 pub use ticket::blank_ticket;
-pub use window::Window;
-pub use writer::Written;
 pub use writer::record_length;
 pub use writer::write_ticket;
 ghost use mathlib.Core.Path.{_≡_};
-ghost use mathlib.Core.Bool.{_&&_, _||_};
+ghost use mathlib.Core.Bool.{_&&_, _||_, cond};
 ghost use Prim.Native.Nat.{_+_, _^_, _≤_, _<_};
 ghost use lib.ListN.{length, getD};
-ghost use Rattle.record.specs.Fields.{presentIn, pick, numberAt, mapOf, TakenAt};
-
-// A field as the cursor finds it: its number, 0 where its bit does not stand, and the position past it.
-struct Field {
-    value: u32,
-    next: usize,
-}
+ghost use lib.Dec.{leb};
+ghost use Rattle.definitions.specs.Fields.{hasBit, numberAt, mapOf};
+ghost use Rattle.definitions.specs.Cursor.{TakenAt};
 
 // Whether both hold.
 pub fn both(a: bool, b: bool) -> bool
@@ -61,12 +46,19 @@ pub fn byte(bytes: &[u8], at: usize) -> u8
     if at < bytes.len() { bytes[at] } else { 0 }
 }
 
+// Whether a word has a bit; a bit above 63 stands in no word.
+pub fn has_bit(word: u64, k: usize) -> bool
+    ensures { λ r. ⌜ r ≡ (leb k 63 && hasBit word k) ⌝ }
+{
+    if k < 64 { (word >> k) % 2 == 1 } else { false }
+}
+
 // Whether a map has a bit.
 fn present(map: u16, bit: usize) -> bool
     requires { ⌜ bit < 16 ⌝ }
-    ensures { λ r. ⌜ r ≡ presentIn map bit ⌝ }
+    ensures { λ r. ⌜ r ≡ hasBit map bit ⌝ }
 {
-    (map >> bit) % 2 == 1
+    has_bit(map as u64, bit)
 }
 
 // The map in front of a record.
@@ -91,7 +83,7 @@ fn number(bytes: &[u8], at: usize, width: usize) -> u32
 
 // The field of a map bit that is so many bytes wide, at the cursor.
 fn take_field(bytes: &[u8], map: u16, bit: usize, width: usize, at: usize) -> Field
-    requires { ⌜ (bit < 16) × (width ≤ 4) × (at + pick (presentIn map bit) width 0 ≤ length (now bytes)) ⌝ }
+    requires { ⌜ (bit < 16) × (width ≤ 4) × (at + cond (hasBit map bit) width 0 ≤ length (now bytes)) ⌝ }
     ensures { λ r. ⌜ TakenAt (now (bytes .entry)) map bit width at r ⌝ }
 {
     if present(map, bit) {
@@ -107,7 +99,7 @@ fn take_field(bytes: &[u8], map: u16, bit: usize, width: usize, at: usize) -> Fi
 // A field of one byte at the cursor, 0 where its bit does not stand or the byte is missing.
 fn byte_field(bytes: &[u8], map: u16, bit: usize, at: usize) -> u8
     requires { ⌜ bit < 16 ⌝ }
-    ensures { λ r. ⌜ r ≡ pick (presentIn map bit) (getD (now (bytes .entry)) at 0) 0 ⌝ }
+    ensures { λ r. ⌜ r ≡ cond (hasBit map bit) (getD (now (bytes .entry)) at 0) 0 ⌝ }
 {
     if present(map, bit) {
         byte(bytes, at)

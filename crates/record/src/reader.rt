@@ -1,32 +1,28 @@
 // The ticket reader: any bytes to a ticket, or 60 (document 01, "Ticket records").
-use crate::Field;
 use crate::both;
 use crate::byte_field;
-use crate::errors::Answer;
-use crate::errors::Error;
 use crate::map_of;
 use crate::present;
 use crate::take_field;
-use crate::ticket::Origin;
-use crate::ticket::Ticket;
 use crate::ticket::blank_ticket;
-use crate::window::Window;
+use definitions::Answer;
+use definitions::Error;
+use definitions::Field;
+use definitions::Origin;
+use definitions::Reading;
+use definitions::Ticket;
+use definitions::Window;
 ghost use mathlib.Core.Path.{_≡_};
-ghost use mathlib.Core.Bool.{true};
+ghost use mathlib.Core.Bool.{true, cond};
 ghost use mathlib.Core.List.{List};
 ghost use Prim.Native.Nat.{ℕ, _+_, _≤_, _<_};
 ghost use lib.ListN.{length};
-ghost use Rattle.record.specs.Fields.{pick, presentIn, offsetOf, fieldOf, Taken};
-ghost use Rattle.record.specs.TicketRecords.{ticketLayout, knownMap, hopsOf, hopsFit, originAs, trailOf, readableAs, ticketAs, accepted, refused, readTicket};
+ghost use Rattle.definitions.specs.Fields.{hasBit, offsetOf};
+ghost use Rattle.definitions.specs.Cursor.{Taken};
+ghost use Rattle.definitions.specs.TicketRecords.{ticketLayout, knownMap, hopsOf, hopsFit, originAs, trailOf, readableAs, ticketAs, accepted, refused, readTicket};
 
 // The bytes of the field of each map bit. Of the trail, bit 8, it is the count's; bits 9 and 10 have no bytes.
 pub const WIDTHS: [usize; 9] = [2, 4, 1, 1, 4, 4, 2, 2, 1];
-
-// What the reader gives. Beside a refusal stands a blank ticket.
-pub struct Reading {
-    pub answer: Answer,
-    pub ticket: Ticket,
-}
 
 // The reading of a ticket.
 pub fn accepted(ticket: Ticket) -> Reading
@@ -50,7 +46,7 @@ fn refused() -> Reading
 
 // The bytes of a record up to its trail, by its map; 0 where the map is no ticket's.
 pub fn fixed_length(map: u16) -> usize
-    ensures exact { λ r. ⌜ ((s : List ℕ) → r ≡ pick (knownMap map) (offsetOf ticketLayout s map 8) 0) ⌝ }
+    ensures exact { λ r. ⌜ ((s : List ℕ) → r ≡ cond (knownMap map) (offsetOf ticketLayout s map 8) 0) ⌝ }
     ensures bounded { λ r. ⌜ r ≤ 22 ⌝ }
 {
     match map {
@@ -74,7 +70,7 @@ pub fn hops_fit(map: u16, hops: u8) -> bool
 
 // The bytes of the trail and its count.
 pub fn trail_length(map: u16, hops: u8) -> usize
-    ensures exact { λ r. ⌜ r ≡ pick (presentIn map 8) (1 + hops) 0 ⌝ }
+    ensures exact { λ r. ⌜ r ≡ cond (hasBit map 8) (1 + hops) 0 ⌝ }
     ensures bounded { λ r. ⌜ r ≤ 256 ⌝ }
 {
     if present(map, 8) {

@@ -1,24 +1,33 @@
 // The request reader: any bytes to a request, or 60 (document 01, "Requests").
-use crate::Field;
 use crate::both;
 use crate::byte_field;
-use crate::errors::Answer;
-use crate::errors::Error;
 use crate::errors::is_accepted;
 use crate::map_of;
 use crate::present;
-use crate::reader::Reading;
 use crate::reader::accepted;
 use crate::reader::read_ticket;
 use crate::take_field;
-use crate::ticket::Ticket;
 use crate::ticket::blank_ticket;
+use definitions::Answer;
+use definitions::Counted;
+use definitions::Error;
+use definitions::Field;
+use definitions::Kind;
+use definitions::Numbers;
+use definitions::Parts;
+use definitions::Path;
+use definitions::Reading;
+use definitions::Request;
+use definitions::RequestReading;
+use definitions::Span;
+use definitions::Ticket;
 ghost use mathlib.Core.Path.{_≡_};
 ghost use mathlib.Core.List.{List};
 ghost use Prim.Native.Nat.{ℕ, _+_, _≤_, _<_};
 ghost use lib.ListN.{length};
-ghost use Rattle.record.specs.Fields.{widthOf, offsetOf, Taken};
-ghost use Rattle.record.specs.Requests.{requestLayout, mapFits, pathIf, pathOf, NumbersTaken, SpanTaken, PartsTaken, embeddedIn, hasTicket, refusedRequest, requestFor, readRequest};
+ghost use Rattle.definitions.specs.Fields.{widthOf, offsetOf};
+ghost use Rattle.definitions.specs.Cursor.{Taken, NumbersTaken, SpanTaken, PartsTaken};
+ghost use Rattle.definitions.specs.Requests.{requestLayout, mapFits, pathIf, pathOf, embeddedIn, hasTicket, refusedRequest, requestFor, readRequest};
 
 // The map bits that a request of each kind needs, and those that it may have. There is no kind 0.
 const NEEDED: [u16; 5] = [0, 0x41, 0x91, 0x51, 0xB3];
@@ -27,68 +36,6 @@ const ALLOWED: [u16; 5] = [0, 0x4B, 0x9B, 0x5B, 0xBF];
 
 // The bytes of the field of each map bit; of the tickets and the names, bits 4 to 7, they are the length byte's.
 const WIDTHS: [usize; 8] = [1, 4, 4, 4, 1, 1, 1, 1];
-
-// The kinds of request, 1 to 4.
-pub enum Kind {
-    Initial,
-    Direct,
-    S4U2self,
-    S4U2proxy,
-}
-
-// Where a name lies in the request's bytes. A name that is not there is 0 bytes at 0.
-pub struct Span {
-    pub at: usize,
-    pub len: usize,
-}
-
-// A request. A number that is not there is 0, and a ticket that is not there is blank.
-pub struct Request {
-    pub kind: Kind,
-    pub options: u32,
-    pub pac: u32,
-    pub till: u32,
-    pub tgt: Ticket,
-    pub evidence: Ticket,
-    pub user: Span,
-    pub service: Span,
-}
-
-// What the reader gives. Beside a refusal stands a blank request.
-pub struct RequestReading {
-    pub answer: Answer,
-    pub request: Request,
-}
-
-// The decision path that a kind and a map pick, or the refusal.
-enum Path {
-    Decide(Kind),
-    Refuse,
-}
-
-// A counted field as the cursor finds it, and the position past it.
-struct Counted {
-    span: Span,
-    next: usize,
-}
-
-// The cursor's way through the numbers of a request, and its place behind them.
-struct Numbers {
-    kind: u8,
-    options: u32,
-    pac: u32,
-    till: u32,
-    next: usize,
-}
-
-// Where the tickets and the names of a request lie, and where it ends.
-struct Parts {
-    tgt: Span,
-    evidence: Span,
-    user: Span,
-    service: Span,
-    end: usize,
-}
 
 // Whether a map has the bits that a kind needs, and none beyond those that it may have.
 fn map_fits(kind: usize, map: u16) -> bool

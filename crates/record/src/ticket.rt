@@ -1,29 +1,10 @@
-// Ticket values (document 01, "Ticket records").
-use crate::window::Window;
+// What a ticket value tells: the map and the back numbers of its origin; and the blank ticket (document 01, "Ticket records").
+use definitions::Origin;
+use definitions::Ticket;
+use definitions::Window;
 ghost use mathlib.Core.Path.{_≡_};
 ghost use Prim.Native.Nat.{_<_};
-ghost use Rattle.record.specs.TicketRecords.{originMap, tgtOf, evidenceOf, blankTicket};
-
-// Where a ticket comes from, with the numbers of the tickets that it rests on: its TGT, and its evidence.
-pub enum Origin {
-    Initial,
-    Direct(u16),
-    SelfIssued(u16),
-    Delegated(u16, u16),
-}
-
-// A ticket. The trail has its accounts first and zeros after them; an initial ticket has no service, which is 0 there.
-pub struct Ticket {
-    pub flags: u32,
-    pub window: Window,
-    pub trail: [u8; 8],
-    pub number: u16,
-    pub client: u8,
-    pub service: u8,
-    pub hops: u8,
-    pub barred: bool,
-    pub origin: Origin,
-}
+ghost use Rattle.definitions.specs.TicketRecords.{originMap, tgtOf, evidenceOf, blankTicket};
 
 // The map of an origin, without the barred mark.
 pub fn origin_map(origin: Origin) -> u16

@@ -1,29 +1,26 @@
 // The ticket writer: any ticket value and any output to the ticket's record, 60 or 52 (document 01, "Ticket records").
 // Each function that puts bytes returns the position past them.
 use crate::both;
-use crate::errors::Error;
-use crate::present;
+use crate::has_bit;
 use crate::reader::WIDTHS;
 use crate::reader::fixed_length;
 use crate::reader::hops_fit;
 use crate::reader::trail_length;
-use crate::ticket::Origin;
-use crate::ticket::Ticket;
 use crate::ticket::evidence_of;
 use crate::ticket::origin_map;
 use crate::ticket::tgt_of;
-use crate::window::Window;
+use definitions::Error;
+use definitions::Origin;
+use definitions::Ticket;
+use definitions::Window;
+use definitions::Written;
 ghost use mathlib.Core.Path.{_≡_};
 ghost use Prim.Native.Nat.{_+_, _≤_, _<_, min};
 ghost use lib.ListN.{length, take, drop};
-ghost use Rattle.record.specs.Fields.{widthOf, bigEndian, fieldBytes};
-ghost use Rattle.record.specs.TicketRecords.{ticketLayout, mapFor, allZero, serviceFits, wellFormed, pairBytes, headBytes, trailBytes, tailBytes, recordOf, writtenOf, outputOf, Wrote};
-
-// What the writer answers: the record's length, or a refusal.
-pub enum Written {
-    Length(usize),
-    Refused(Error),
-}
+ghost use Rattle.definitions.specs.Fields.{widthOf, bigEndian, fieldBytes};
+ghost use Rattle.definitions.specs.TicketRecords.{ticketLayout, mapFor, allZero, serviceFits, wellFormed, pairBytes, headBytes, trailBytes, tailBytes, recordOf};
+ghost use Rattle.definitions.specs.Output.{writtenOf, outputOf};
+ghost use Rattle.definitions.specs.Cursor.{Wrote};
 
 // The map of an origin, with or without the barred mark.
 fn map_for(origin: Origin, barred: bool) -> u16
@@ -51,7 +48,11 @@ fn zero_from(s: &[u8], from: usize) -> bool
 fn service_fits(map: u16, service: u8) -> bool
     ensures { λ r. ⌜ r ≡ serviceFits map service ⌝ }
 {
-    if present(map, 3) { true } else { service == 0 }
+    if has_bit(map as u64, 3) {
+        true
+    } else {
+        service == 0
+    }
 }
 
 // Whether the reader can give this ticket.
@@ -100,7 +101,7 @@ fn put_field(out: &mut [u8], at: usize, map: u16, bit: usize, number: u32) -> us
     ensures put { λ r. ⌜ Wrote (now (out .entry)) at (fieldBytes ticketLayout map bit number) (now (out .exit)) r ⌝ }
     ensures bounded { λ r. ⌜ r ≤ at + widthOf ticketLayout bit ⌝ }
 {
-    if present(map, bit) {
+    if has_bit(map as u64, bit) {
         put(out, at, WIDTHS[bit], number)
     } else {
         at
@@ -123,7 +124,7 @@ fn put_trail(out: &mut [u8], at: usize, map: u16, trail: [u8; 8], hops: u8) -> u
     ensures put { λ r. ⌜ Wrote (now (out .entry)) at (trailBytes map trail hops) (now (out .exit)) r ⌝ }
     ensures bounded { λ r. ⌜ r ≤ at + 9 ⌝ }
 {
-    if present(map, 8) {
+    if has_bit(map as u64, 8) {
         out[at] = hops;
         copy(out, at + 1, &trail, hops as usize)
     } else {

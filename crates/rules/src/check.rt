@@ -1,24 +1,26 @@
 // Checks in the order of document 01, "Error numbers": the first that fails gives the answer.
-use crate::Account;
 use crate::AccountWords;
 use crate::account_at;
-use crate::decision::Held;
-use crate::decision::Moment;
-use record::Answer;
-use record::Error;
-use record::Origin;
-use record::Ticket;
-use record::Window;
+use definitions::Account;
+use definitions::Answer;
+use definitions::Error;
+use definitions::Held;
+use definitions::Moment;
+use definitions::Origin;
+use definitions::Ticket;
+use definitions::Window;
 use record::both;
+use record::has_bit;
+ghost use mathlib.Core.Bool.{cond};
 ghost use mathlib.Core.Path.{_≡_};
 ghost use mathlib.Core.List.{_∷_};
-ghost use Rattle.rules.specs.Accounts.{inSet, serves, barred, tableOf};
-ghost use Rattle.rules.specs.Checks.{pickAnswer, andThen, judge};
-ghost use Rattle.rules.specs.Decisions.{enabled, isInitial, isHeld, roomCheck, tgtChecks, evidenceChecks, serviceCheck, selfCheck, userChecks, lastChecks};
+ghost use Rattle.definitions.specs.Accounts.{serves, barred, tableOf};
+ghost use Rattle.definitions.specs.Checks.{andThen, judge};
+ghost use Rattle.definitions.specs.Decisions.{enabled, isInitial, isHeld, roomCheck, tgtChecks, evidenceChecks, serviceCheck, userChecks, lastChecks};
 
 // What comes after a check that holds, or its refusal.
 pub fn unless(holds: bool, error: Error, rest: Answer) -> Answer
-    ensures { λ r. ⌜ r ≡ pickAnswer holds rest (Answer.Refused error) ⌝ }
+    ensures { λ r. ⌜ r ≡ cond holds rest (Answer.Refused error) ⌝ }
 {
     if holds { rest } else { Answer::Refused(error) }
 }
@@ -31,13 +33,6 @@ pub fn and_then(first: Answer, second: Answer) -> Answer
         Answer::Accepted => second,
         Answer::Refused(error) => Answer::Refused(error),
     }
-}
-
-// Whether a word has a bit; a bit above 63 stands in no word.
-pub fn has_bit(word: u64, k: usize) -> bool
-    ensures { λ r. ⌜ r ≡ inSet word k ⌝ }
-{
-    if k < 64 { (word >> k) % 2 == 1 } else { false }
 }
 
 // Whether an account is not disabled.
@@ -158,7 +153,7 @@ pub fn check_user(user: Account, rest: Answer) -> Answer
 
 // The check of a named service: 7; then what comes after it.
 pub fn check_service(service: Account, rest: Answer) -> Answer
-    ensures { λ r. ⌜ r ≡ pickAnswer (serviceCheck service .holds) rest (Answer.Refused (serviceCheck service .error)) ⌝ }
+    ensures { λ r. ⌜ r ≡ cond (serviceCheck service .holds) rest (Answer.Refused (serviceCheck service .error)) ⌝ }
 {
     unless(
         both(is_enabled(service), is_service(service)),

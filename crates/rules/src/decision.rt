@@ -1,5 +1,4 @@
 // The four decisions: which ticket a request is given, or which number refuses it (document 01, "Decisions").
-use crate::Account;
 use crate::AccountWords;
 use crate::account_at;
 use crate::check::and_then;
@@ -8,49 +7,34 @@ use crate::check::check_last;
 use crate::check::check_service;
 use crate::check::check_tgt;
 use crate::check::check_user;
-use crate::check::has_bit;
 use crate::check::is_barred;
 use crate::check::is_service;
 use crate::check::unless;
 use crate::name::find_name;
-use record::Answer;
-use record::Error;
-use record::Kind;
-use record::Origin;
-use record::Request;
-use record::Span;
-use record::Ticket;
-use record::Window;
+use definitions::Account;
+use definitions::Answer;
+use definitions::Decision;
+use definitions::Error;
+use definitions::Held;
+use definitions::Kind;
+use definitions::Moment;
+use definitions::Origin;
+use definitions::Request;
+use definitions::Span;
+use definitions::Ticket;
+use definitions::Window;
 use record::both;
 use record::either;
+use record::has_bit;
 use record::is_accepted;
 ghost use mathlib.Core.Path.{_≡_};
 ghost use mathlib.Core.List.{_∷_, _++_};
 ghost use Prim.Native.Nat.{_<_, _≤_};
-ghost use Rattle.record.specs.Requests.{partOf};
-ghost use Rattle.rules.specs.Accounts.{tableOf};
-ghost use Rattle.rules.specs.Names.{findName};
-ghost use Rattle.rules.specs.Checks.{judge};
-ghost use Rattle.rules.specs.Decisions.{roomCheck, tgtChecks, evidenceChecks, lastChecks, flagsOf, permitted, hopChecks, fullWindow, wished, initialWindow, grantWindow, hopWindow, selfForwardable, initialTicket, directTicket, selfTicket, proxyTicket, refusal, decided, userOf, serviceOf, decideInitial, decideDirect, decideSelf, decideProxy, decide};
-
-// What the ledger holds at a presented ticket's number: its first ticket of that number, or nothing.
-pub struct Held {
-    pub found: bool,
-    pub ticket: Ticket,
-}
-
-// What a call brings beside the request: the clock reading, how many tickets are held, and the output's length.
-pub struct Moment {
-    pub clock: u32,
-    pub count: usize,
-    pub room: usize,
-}
-
-// What a request is answered. Beside a refusal stands a blank ticket.
-pub struct Decision {
-    pub answer: Answer,
-    pub ticket: Ticket,
-}
+ghost use Rattle.definitions.specs.Requests.{partOf};
+ghost use Rattle.definitions.specs.Checks.{judge};
+ghost use Rattle.definitions.specs.Accounts.{tableOf};
+ghost use Rattle.definitions.specs.Names.{findName};
+ghost use Rattle.definitions.specs.Decisions.{roomCheck, tgtChecks, evidenceChecks, lastChecks, flagsOf, permitted, hopChecks, fullWindow, wished, initialWindow, grantWindow, hopWindow, selfForwardable, initialTicket, directTicket, selfTicket, proxyTicket, refusal, decided, userOf, serviceOf, decideInitial, decideDirect, decideSelf, decideProxy, decide};
 
 // An answer that is a refusal, with a blank ticket.
 pub fn refuse(answer: Answer) -> Decision
@@ -69,25 +53,6 @@ fn grant(ticket: Ticket) -> Decision
     Decision {
         answer: Answer::Accepted,
         ticket,
-    }
-}
-
-// The account that a name in the request's bytes stands for.
-fn named(words: &AccountWords, bytes: &[u8], span: Span) -> usize
-    ensures exact { λ r. ⌜ r ≡ findName (tableOf (now (words .entry))) (partOf (now (bytes .entry)) span) ⌝ }
-    ensures bounded { λ r. ⌜ r ≤ 64 ⌝ }
-{
-    let at = span.at;
-    let len = span.len;
-    let end = bytes.len();
-    if end <= at {
-        return find_name(words, &bytes[end..]);
-    }
-    if len < end - at {
-        let to = at + len;
-        find_name(words, &bytes[at..to])
-    } else {
-        find_name(words, &bytes[at..])
     }
 }
 
@@ -180,6 +145,48 @@ fn self_forwardable(service: Account, q: Request, tgt: Ticket) -> bool
             both(has_bit(q.options as u64, 30), has_bit(tgt.flags as u64, 30)),
         ),
     )
+}
+
+// The checks of a hop and the last ones: 13, 61; 11, 29.
+fn check_hop(
+    q: Request,
+    m: Moment,
+    first: Account,
+    second: Account,
+    s: usize,
+    window: Window,
+) -> Answer
+    ensures { λ r. ⌜ r ≡ judge (hopChecks first second q (q .tgt) (q .evidence) s ++ lastChecks m window) ⌝ }
+{
+    let evidence = q.evidence;
+    unless(
+        is_permitted(q, first, second, s),
+        Error::KDC_ERR_BADOPTION,
+        unless(
+            evidence.hops < 8,
+            Error::KRB_ERR_FIELD_TOOLONG,
+            check_last(m, window),
+        ),
+    )
+}
+
+// The account that a name in the request's bytes stands for.
+fn named(words: &AccountWords, bytes: &[u8], span: Span) -> usize
+    ensures exact { λ r. ⌜ r ≡ findName (tableOf (now (words .entry))) (partOf (now (bytes .entry)) span) ⌝ }
+    ensures bounded { λ r. ⌜ r ≤ 64 ⌝ }
+{
+    let at = span.at;
+    let len = span.len;
+    let end = bytes.len();
+    if end <= at {
+        return find_name(words, &bytes[end..]);
+    }
+    if len < end - at {
+        let to = at + len;
+        find_name(words, &bytes[at..to])
+    } else {
+        find_name(words, &bytes[at..])
+    }
 }
 
 // The ticket of kind 1.
@@ -328,29 +335,6 @@ fn decide_self(words: &AccountWords, q: Request, m: Moment, u: usize) -> Decisio
     } else {
         refuse(answer)
     }
-}
-
-// The checks of a hop and the last ones: 13, 61; 11, 29.
-fn check_hop(
-    q: Request,
-    m: Moment,
-    first: Account,
-    second: Account,
-    s: usize,
-    window: Window,
-) -> Answer
-    ensures { λ r. ⌜ r ≡ judge (hopChecks first second q (q .tgt) (q .evidence) s ++ lastChecks m window) ⌝ }
-{
-    let evidence = q.evidence;
-    unless(
-        is_permitted(q, first, second, s),
-        Error::KDC_ERR_BADOPTION,
-        unless(
-            evidence.hops < 8,
-            Error::KRB_ERR_FIELD_TOOLONG,
-            check_last(m, window),
-        ),
-    )
 }
 
 // Kind 4 to a service, once the TGT and the evidence are found good.

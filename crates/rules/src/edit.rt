@@ -1,5 +1,4 @@
 // Edits: an edit sets one account whole, and the first fixes its name (document 01, "Accounts" and the row 60, 12, 8 of "Error numbers").
-use crate::Account;
 use crate::AccountWords;
 use crate::account_at;
 use crate::count_words;
@@ -8,15 +7,16 @@ use crate::name::has_name;
 use crate::name::name_taken;
 use crate::pack;
 use crate::put_row;
-use record::Answer;
-use record::Error;
+use definitions::Account;
+use definitions::Answer;
+use definitions::Error;
 use record::both;
 use record::is_accepted;
 ghost use mathlib.Core.Path.{_≡_};
 ghost use Prim.Native.Nat.{ℕ, _<_, _≤_};
 ghost use lib.ListN.{length};
-ghost use Rattle.rules.specs.Accounts.{tableOf, storeRow};
-ghost use Rattle.rules.specs.Edits.{editOf, readable, keepsName, editAnswer, editRow, edited, storedBy};
+ghost use Rattle.definitions.specs.Accounts.{tableOf, storeRow};
+ghost use Rattle.definitions.specs.Edits.{editOf, readable, keepsName, editAnswer, editRow, edited, storedBy};
 
 // Whether an edit's number, name and flags are good.
 fn readable_edit(number: u32, name: &[u8], flags: u32) -> bool

@@ -1,5 +1,5 @@
-// Layer 2, the rules: accounts and names, edits, the checks and the four decisions (document 01, "Accounts", "Decisions" and "Error numbers").
-// Accounts and names are in words that the caller lends.
+// Layer 2, the rules: accounts and names in words that the caller lends, edits, the checks and the four decisions (document 01, "Accounts",
+// "Decisions" and "Error numbers").
 // This file holds the accounts' words. A row has six: three of name, eight bytes a word, the lowest byte first; one of length, flags and
 // lifetime; the send set; the receive set. Beside it only the search by name (name.rt) and the storing of a row (edit.rt) see an offset.
 mod check;
@@ -7,11 +7,9 @@ mod decision;
 mod edit;
 mod name;
 
-pub use decision::Decision;
-pub use decision::Held;
-pub use decision::Moment;
 pub use decision::decide;
 pub use decision::refuse;
+use definitions::Account;
 pub use edit::edit_account;
 pub use name::find_name;
 use record::both;
@@ -20,21 +18,12 @@ ghost use mathlib.Core.Path.{_≡_};
 ghost use mathlib.Core.List.{[], _∷_};
 ghost use Prim.Native.Nat.{_+_, _*_, _<_, _≤_};
 ghost use lib.ListN.{length, replicate};
-ghost use Rattle.rules.specs.Accounts.{neverSet, Row, rowAt, account, tableOf, noAccounts, setLength, lengthAt, byteAt, packAt, putRow, storeRow};
+ghost use Rattle.definitions.specs.Accounts.{neverSet, rowAt, account, tableOf, setLength, lengthAt, byteAt, packAt, putRow};
 
 pub const ACCOUNTS: usize = 384;
 
 // The words of 64 rows.
 pub type AccountWords = [u64; ACCOUNTS];
-
-// An account. One that was never set is not known, and disabled.
-pub struct Account {
-    pub known: bool,
-    pub flags: u8,
-    pub send: u64,
-    pub receive: u64,
-    pub lifetime: u32,
-}
 
 // How many words are lent.
 fn count_words(words: &[u64]) -> usize

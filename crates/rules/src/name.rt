@@ -4,6 +4,7 @@ use crate::byte_at;
 use crate::length_at;
 use crate::pack;
 use crate::set_length;
+use definitions::Trace;
 use record::both;
 ghost use mathlib.Core.Path.{_≡_};
 ghost use mathlib.Core.Bool.{true, false};
@@ -12,9 +13,10 @@ ghost use Prim.Native.Nat.{ℕ, _+_, _*_, _<_, _≤_};
 ghost use lib.ListN.{length, getD};
 ghost use lib.Dec.{eqb};
 ghost use lib.Bits.{bitAnd};
-ghost use Rattle.record.specs.Fields.{Bytes};
-ghost use Rattle.rules.specs.Accounts.{tableOf, nameAt};
-ghost use Rattle.rules.specs.Names.{goodByte, goodName, lower, folded, agree, findName, taken, named, lowsFrom, traceOf};
+ghost use Rattle.definitions.specs.Fields.{Bytes};
+ghost use Rattle.definitions.specs.Accounts.{tableOf, nameAt};
+ghost use Rattle.definitions.specs.Names.{goodByte, goodName, lower, folded, agree, findName, taken};
+ghost use Rattle.definitions.specs.Search.{named, lowsFrom, traceOf};
 
 // Whether a byte may stand in a name.
 fn good_byte(c: u8) -> bool
@@ -101,18 +103,6 @@ pub fn has_name(words: &AccountWords, n: usize, ignore: bool, name: &[u8]) -> bo
 
 // The low five bits of each of eight bytes, which letter case leaves alone.
 const LOWS: u64 = 0x1F1F1F1F1F1F1F1F;
-
-// What a search compares rows with, so that it looks at words and not at bytes: the name's length, and for each of the three words of a
-// name a mask and what stands under it.
-struct Trace {
-    length: usize,
-    mask0: u64,
-    mask1: u64,
-    mask2: u64,
-    low0: u64,
-    low1: u64,
-    low2: u64,
-}
 
 // The mask for those bytes of a name of a length that lie in the word from a position on.
 fn mask_from(length: usize, from: usize) -> u64

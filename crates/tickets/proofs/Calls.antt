@@ -5,29 +5,30 @@
 use Prim.Native.Nat.{ℕ, _≤_}
 use native.Mathlib.Omega.{arith}
 use mathlib.Core.Path.{_≡_, sym, ap, _∙_}
-use mathlib.Core.Bool.{Bool, true, false}
+use mathlib.Core.Bool.{Bool, true, false, cond}
 use mathlib.Core.List.{List, []}
 use lib.ListN.{length}
 use lib.Dec.{leb}
-use Rattle.record.specs.Errors.{answerNumber}
-use Rattle.record.specs.Fields.{Bytes}
-use Rattle.record.specs.TicketRecords.{blankTicket, wellFormed, mapOfTicket, recordOf, pickWritten, writtenOf, readTicket, accepted}
-use Rattle.record.specs.declared.errors.Error.{Error}
-use Rattle.record.specs.declared.errors.Error.the-variants.{«KRB_ERR_RESPONSE_TOO_BIG», «KRB_ERR_GENERIC»}
-use Rattle.record.specs.declared.errors.Answer.{Answer}
-use Rattle.record.specs.declared.errors.Answer.the-variants.{Accepted}
-use Rattle.record.specs.declared.ticket.Ticket.{Ticket}
-use Rattle.record.specs.declared.reader.Reading.{Reading}
-use Rattle.record.specs.declared.writer.Written.{Written}
-use Rattle.record.specs.declared.writer.Written.the-variants.{Length, Refused as Unwritten}
-use Rattle.record.proofs.TicketRecords.{record-most}
-use Rattle.record.proofs.RoundTrip.{given-writable}
-use Rattle.rules.specs.Accounts.{tableOf}
-use Rattle.rules.specs.Edits.{Edit, editAnswer, storedBy}
-use Rattle.rules.specs.declared.decision.Decision.{Decision}
-use Rattle.ledger.specs.Words.{ticketsOf}
-use Rattle.ledger.specs.Book.{decideRequest}
-use Rattle.ledger.specs.History.{Edited, Requested}
+use Rattle.definitions.specs.Errors.{answerNumber}
+use Rattle.definitions.specs.Fields.{Bytes}
+use Rattle.definitions.specs.TicketRecords.{blankTicket, wellFormed, mapOfTicket, recordOf, readTicket, accepted}
+use Rattle.definitions.specs.Output.{writtenOf}
+use Rattle.definitions.specs.declared.errors.Error.{Error}
+use Rattle.definitions.specs.declared.errors.Error.the-variants.{«KRB_ERR_RESPONSE_TOO_BIG», «KRB_ERR_GENERIC»}
+use Rattle.definitions.specs.declared.errors.Answer.{Answer}
+use Rattle.definitions.specs.declared.errors.Answer.the-variants.{Accepted}
+use Rattle.definitions.specs.declared.ticket.Ticket.{Ticket}
+use Rattle.definitions.specs.declared.ticket.Reading.{Reading}
+use Rattle.definitions.specs.declared.ticket.Written.{Written}
+use Rattle.definitions.specs.declared.ticket.Written.the-variants.{Length, Refused as Unwritten}
+use Rattle.definitions.proofs.TicketRecords.{record-most}
+use Rattle.definitions.proofs.RoundTrip.{given-writable}
+use Rattle.definitions.specs.Accounts.{tableOf}
+use Rattle.definitions.specs.Edits.{Edit, editAnswer, storedBy}
+use Rattle.definitions.specs.declared.decision.Decision.{Decision}
+use Rattle.definitions.specs.Words.{ticketsOf}
+use Rattle.definitions.specs.Answers.{decideRequest}
+use Rattle.definitions.specs.Promises.{Edited, Requested}
 use Rattle.tickets.specs.declared.TicketsAnswer.{TicketsAnswer}
 use Rattle.tickets.specs.Calls.{answerOf, requestAnswer, replyWith}
 
@@ -39,7 +40,7 @@ written-length : (t : Ticket) (k n : ℕ) → writtenOf t k ≡ Length n → len
 unfolding writtenOf
 written-length t k n h = by (wellFormed t (mapOfTicket t)) (leb 31 k) h
   where
-    by : (p q : Bool) → pickWritten p (pickWritten q (Length (length (recordOf t))) (Unwritten «KRB_ERR_RESPONSE_TOO_BIG»)) (Unwritten «KRB_ERR_GENERIC») ≡ Length n
+    by : (p q : Bool) → cond p (cond q (Length (length (recordOf t))) (Unwritten «KRB_ERR_RESPONSE_TOO_BIG»)) (Unwritten «KRB_ERR_GENERIC») ≡ Length n
         → length (recordOf t) ≡ n
     by true true e = cc
     by true false e = never (length (recordOf t) ≡ n) «KRB_ERR_RESPONSE_TOO_BIG» n e

@@ -3,23 +3,24 @@
 use Prim.Native.Nat.{ℕ}
 use mathlib.Core.List.{List, [], _∷_}
 use lib.ListN.{length}
-use Rattle.record.specs.Errors.{numberOf}
-use Rattle.record.specs.TicketRecords.{writtenOf, outputOf, recordOf}
-use Rattle.record.specs.declared.errors.Error.{Error}
-use Rattle.record.specs.declared.errors.Answer.{Answer}
-use Rattle.record.specs.declared.errors.Answer.the-variants.{Accepted, Refused}
-use Rattle.record.specs.declared.ticket.Ticket.{Ticket}
-use Rattle.record.specs.declared.reader.Reading.{Reading}
-use Rattle.record.specs.declared.writer.Written.{Written}
-use Rattle.record.specs.declared.writer.Written.the-variants.{Length, Refused as Unwritten}
-use Rattle.record.specs.declared.request.Kind.{Kind}
-use Rattle.record.specs.declared.request.Kind.the-variants.{Initial, Direct, S4U2self, S4U2proxy}
-use Rattle.record.specs.declared.request.Request.{Request}
-use Rattle.record.specs.declared.request.RequestReading.{RequestReading}
-use Rattle.rules.specs.declared.decision.Decision.{Decision}
-use Rattle.ledger.specs.Book.{Reply}
-use Rattle.ledger.specs.declared.call.Descended.{Descended}
-use Rattle.ledger.specs.declared.call.Descended.the-variants.{Steps, Refused as NoDescent}
+use Rattle.definitions.specs.Errors.{numberOf}
+use Rattle.definitions.specs.TicketRecords.{recordOf}
+use Rattle.definitions.specs.Output.{writtenOf, outputOf}
+use Rattle.definitions.specs.declared.errors.Error.{Error}
+use Rattle.definitions.specs.declared.errors.Answer.{Answer}
+use Rattle.definitions.specs.declared.errors.Answer.the-variants.{Accepted, Refused}
+use Rattle.definitions.specs.declared.ticket.Ticket.{Ticket}
+use Rattle.definitions.specs.declared.ticket.Reading.{Reading}
+use Rattle.definitions.specs.declared.ticket.Written.{Written}
+use Rattle.definitions.specs.declared.ticket.Written.the-variants.{Length, Refused as Unwritten}
+use Rattle.definitions.specs.declared.request.Kind.{Kind}
+use Rattle.definitions.specs.declared.request.Kind.the-variants.{Initial, Direct, S4U2self, S4U2proxy}
+use Rattle.definitions.specs.declared.request.Request.{Request}
+use Rattle.definitions.specs.declared.request.RequestReading.{RequestReading}
+use Rattle.definitions.specs.declared.decision.Decision.{Decision}
+use Rattle.definitions.specs.Promises.{Reply}
+use Rattle.definitions.specs.declared.descent.Descended.{Descended}
+use Rattle.definitions.specs.declared.descent.Descended.the-variants.{Steps, Refused as NoDescent}
 use Rattle.tickets.specs.declared.TicketsAnswer.{TicketsAnswer}
 
 -- a refusal's number, with no value

@@ -1,29 +1,28 @@
 // The C interface (include/tickets.h): the calls of the ledger (document 01, "Decisions", "The plain book" and "Error numbers"), and the
 // record layer's readers and writer ("Ticket records" and "Requests"), exported for tests of the compiled library.
 // Only numbers, words and slices of bytes cross the border. A function takes any words, any bytes and any output.
-use ledger::Descended;
+use definitions::Answer;
+use definitions::Descended;
+use definitions::Error;
+use definitions::Kind;
+use definitions::Request;
+use definitions::Ticket;
+use definitions::Written;
 use ledger::LedgerWords;
-use record::Answer;
-use record::Error;
-use record::Kind;
-use record::Request;
-use record::Ticket;
-use record::Written;
 use rules::AccountWords;
 ghost use mathlib.Core.Path.{_≡_};
 ghost use Prim.Native.Nat.{ℕ, _≤_};
 ghost use lib.ListN.{length, replicate};
-ghost use Rattle.record.specs.Errors.{numberOf, answerNumber};
-ghost use Rattle.record.specs.TicketRecords.{readTicket};
-ghost use Rattle.record.specs.Requests.{readRequest};
-ghost use Rattle.rules.specs.Accounts.{tableOf};
-ghost use Rattle.rules.specs.Edits.{editOf, editAnswer, storedBy};
-ghost use Rattle.ledger.specs.Words.{ticketsOf, noTickets};
-ghost use Rattle.ledger.specs.Totals.{dayTotal};
-ghost use Rattle.ledger.specs.Book.{decideRequest};
-ghost use Rattle.ledger.specs.Descent.{descent};
-ghost use Rattle.ledger.specs.Calls.{descended};
-ghost use Rattle.ledger.specs.History.{Requested};
+ghost use Rattle.definitions.specs.Errors.{answerNumber};
+ghost use Rattle.definitions.specs.TicketRecords.{readTicket};
+ghost use Rattle.definitions.specs.Requests.{readRequest};
+ghost use Rattle.definitions.specs.Accounts.{tableOf};
+ghost use Rattle.definitions.specs.Edits.{editOf, editAnswer, storedBy};
+ghost use Rattle.definitions.specs.Words.{ticketsOf, noTickets};
+ghost use Rattle.definitions.specs.Totals.{dayTotal};
+ghost use Rattle.definitions.specs.Answers.{decideRequest};
+ghost use Rattle.definitions.specs.Descent.{descent, descended};
+ghost use Rattle.definitions.specs.Promises.{Requested};
 ghost use Rattle.tickets.specs.Calls.{refusal, writtenAnswer, rewriteAnswer, rewriteOutput, kindNumber, requestFields, fieldsAfter, grant, requestAnswer, replyWith, descentAnswer};
 
 // What a call answers: the error number, 0 where there is none, and a value, 0 beside an error.

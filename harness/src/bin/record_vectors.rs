@@ -1,14 +1,16 @@
-//! Prints the record layer's vectors with their answers: document 01, sections "Ticket records" and
-//! "Requests", and the records of "Hops and a morning". One line for each vector.
+//! Vectors over the record layer: document 01, sections "Ticket records" and "Requests", and the
+//! records of "Hops and a morning". `record_vectors stdin` prints them, one a line, in the forms that
+//! the head of crates/record_vectors/src/main.rt gives; `record_vectors stdout` prints each with the
+//! answer of this implementation.
 
 use harness::record::{
-    read_request, read_ticket, write_ticket, Error, Kind, Origin, Request, Ticket, Trail,
-    LONGEST_RECORD,
+    read_request, read_ticket, write_ticket, Kind, Origin, Request, Ticket, Trail, NO_TRAIL,
 };
 use harness::samples::{counted, w1, w3_with, TICKET_0, TICKET_1, TICKET_2};
+use std::collections::HashSet;
 use std::fmt;
 use std::io::{self, BufWriter, Write};
-use std::iter;
+use std::{env, iter};
 
 /// The eight maps of a ticket record.
 const TICKET_MAPS: [u16; 8] = [0x0037, 0x0237, 0x007F, 0x027F, 0x047F, 0x067F, 0x01FF, 0x03FF];
@@ -25,6 +27,46 @@ const ODD_TICKETS: [&[u8]; 4] = [
     b"\x01\xff\x00\x02\x40\x00\x00\x00\x00\x02\x00\x00\x03\xfc\x00\x00\x90\x88\xff\xfe\xff\xff\x01\x01",
 ];
 
+/// A call of the record layer.
+enum Vector {
+    Ticket(Vec<u8>),
+    /// The ticket of a record that reads, written to an output of this size.
+    Write(u8, Vec<u8>),
+    /// The same for any ticket value.
+    Value(u8, Ticket),
+    Same(Ticket, Ticket),
+    Request(Vec<u8>),
+}
+
+impl fmt::Display for Vector {
+    fn fmt(&self, f: &mut fmt::Formatter) -> fmt::Result {
+        match self {
+            Vector::Ticket(record) => write!(f, "ticket {}", Hex(record)),
+            Vector::Write(size, record) => write!(f, "write {size:02x} {}", Hex(record)),
+            Vector::Value(size, ticket) => write!(f, "value {size:02x} {}", Hex(&value(ticket))),
+            Vector::Same(left, right) => {
+                write!(f, "same {} {}", Hex(&value(left)), Hex(&value(right)))
+            }
+            Vector::Request(bytes) => write!(f, "request {}", Hex(bytes)),
+        }
+    }
+}
+
+impl Vector {
+    fn answer(&self) -> String {
+        match self {
+            Vector::Ticket(record) => ticket_answer(record),
+            Vector::Write(size, record) => {
+                let ticket = read_ticket(record).expect("the record reads");
+                write_answer(&ticket, *size)
+            }
+            Vector::Value(size, ticket) => write_answer(ticket, *size),
+            Vector::Same(left, right) => u8::from(left == right).to_string(),
+            Vector::Request(bytes) => request_answer(bytes),
+        }
+    }
+}
+
 /// Bytes in hexadecimal, `-` where there are none.
 struct Hex<'a>(&'a [u8]);
 
@@ -37,18 +79,42 @@ impl fmt::Display for Hex<'_> {
     }
 }
 
+/// The origin's number in a ticket value, its name, and its back numbers, 0 where there is none.
+fn origin_parts(origin: Origin) -> (u8, &'static str, u16, u16) {
+    match origin {
+        Origin::Initial => (0, "initial", 0, 0),
+        Origin::Direct { tgt } => (1, "direct", tgt, 0),
+        Origin::SelfIssued { tgt } => (2, "self", tgt, 0),
+        Origin::Delegated { tgt, evidence } => (3, "delegated", tgt, evidence),
+    }
+}
+
+/// The 31 bytes of a ticket value.
+fn value(ticket: &Ticket) -> Vec<u8> {
+    let (origin, _, tgt, evidence) = origin_parts(ticket.origin);
+    [
+        &ticket.number.to_be_bytes()[..],
+        &ticket.flags.to_be_bytes(),
+        &[ticket.client, ticket.service],
+        &ticket.start.to_be_bytes(),
+        &ticket.end.to_be_bytes(),
+        &[origin],
+        &tgt.to_be_bytes(),
+        &evidence.to_be_bytes(),
+        &[ticket.hops],
+        &ticket.trail,
+        &[ticket.barred.into()],
+    ]
+    .concat()
+}
+
 /// The ticket's fields by name.
 struct Fields(Ticket);
 
 impl fmt::Display for Fields {
     fn fmt(&self, f: &mut fmt::Formatter) -> fmt::Result {
         let ticket = &self.0;
-        let (origin, tgt, evidence) = match ticket.origin {
-            Origin::Initial => ("initial", 0, 0),
-            Origin::Direct { tgt } => ("direct", tgt, 0),
-            Origin::SelfIssued { tgt } => ("self", tgt, 0),
-            Origin::Delegated { tgt, evidence } => ("delegated", tgt, evidence),
-        };
+        let (_, origin, tgt, evidence) = origin_parts(ticket.origin);
         write!(f, "number={} flags={:08x}", ticket.number, ticket.flags)?;
         write!(f, " client={} service={}", ticket.client, ticket.service)?;
         write!(f, " start={} end={}", ticket.start, ticket.end)?;
@@ -74,9 +140,40 @@ impl fmt::Display for Place<'_> {
     }
 }
 
-/// 0 for an answer, else the refusal's number.
-fn number<T>(answer: Result<T, Error>) -> u8 {
-    answer.map_or_else(Error::number, |_| 0)
+fn ticket_answer(record: &[u8]) -> String {
+    match read_ticket(record) {
+        Ok(ticket) => format!("0 {}", Fields(ticket)),
+        Err(error) => error.number().to_string(),
+    }
+}
+
+/// What the writer answers, and an output of this size after it, which held 0xee before.
+fn write_answer(ticket: &Ticket, size: u8) -> String {
+    let mut output = vec![0xEE; size.into()];
+    let answer = write_ticket(ticket, &mut output);
+    let answer = answer.unwrap_or_else(|error| error.number().into());
+    format!("{answer} {}", Hex(&output))
+}
+
+fn request_answer(bytes: &[u8]) -> String {
+    let Request { kind, options, pac_options, till } = match read_request(bytes) {
+        Ok(request) => request,
+        Err(error) => return error.number().to_string(),
+    };
+    let (kind, tgt, evidence, user, service) = match kind {
+        Kind::Initial { user } => (1, 0, 0, Some(user), None),
+        Kind::Direct { tgt, service } => (2, tgt.number, 0, None, Some(service)),
+        Kind::S4u2self { tgt, user } => (3, tgt.number, 0, Some(user), None),
+        Kind::S4u2proxy { tgt, evidence, service } => {
+            (4, tgt.number, evidence.number, None, Some(service))
+        }
+    };
+    let place = |name| Place { request: bytes, name };
+    let (user, service) = (place(user), place(service));
+    format!(
+        "0 kind={kind} options={options:08x} pac={pac_options:08x} till={till} tgt={tgt} \
+         evidence={evidence} user={user} service={service}"
+    )
 }
 
 /// Where a record of this map has its trail, or its end if it has none.
@@ -112,89 +209,47 @@ fn longest_record(map: u16) -> Vec<u8> {
     counting_record(map, 8)
 }
 
-fn print_ticket(out: &mut impl Write, record: &[u8]) -> io::Result<()> {
-    write!(out, "ticket {} -> ", Hex(record))?;
-    match read_ticket(record) {
-        Ok(ticket) => writeln!(out, "0 {}", Fields(ticket)),
-        Err(error) => writeln!(out, "{}", error.number()),
-    }
+/// Every shorter part of the bytes, and the bytes with one more.
+fn cuts(bytes: &[u8]) -> impl Iterator<Item = Vec<u8>> + '_ {
+    let shorter = (0..bytes.len()).map(|length| bytes[..length].to_vec());
+    shorter.chain(iter::once([bytes, &[0]].concat()))
 }
 
-/// Prints what the writer answers, and an output of this size after it, which held 0xee before.
-fn print_written(out: &mut impl Write, ticket: &Ticket, size: usize) -> io::Result<()> {
-    let mut output = vec![0xEE; size];
-    let answer = write_ticket(ticket, &mut output);
-    let answer = answer.unwrap_or_else(|error| error.number().into());
-    writeln!(out, " {size} -> {answer} {}", Hex(&output))
-}
-
-/// Prints the answers to every shorter part of the bytes, and to the bytes with one more.
-fn print_cuts(out: &mut impl Write, bytes: &[u8], answer: impl Fn(&[u8]) -> u8) -> io::Result<()> {
-    for length in 0..bytes.len() {
-        writeln!(out, "cut {length} -> {}", answer(&bytes[..length]))?;
-    }
-    writeln!(out, "over -> {}", answer(&[bytes, &[0]].concat()))
-}
-
-/// Prints the answers to the bytes with each bit of their map changed.
-fn print_flips(out: &mut impl Write, bytes: &[u8], answer: impl Fn(&[u8]) -> u8) -> io::Result<()> {
+/// The bytes with each bit of their map changed.
+fn flips(bytes: &[u8]) -> impl Iterator<Item = Vec<u8>> + '_ {
     let map = u16::from_be_bytes([bytes[0], bytes[1]]);
-    for bit in 0..16 {
-        let flipped = map ^ 1 << bit;
-        let flipped_bytes = [&flipped.to_be_bytes(), &bytes[2..]].concat();
-        writeln!(out, "flip {flipped:04x} -> {}", answer(&flipped_bytes))?;
-    }
-    Ok(())
+    (0..16).map(move |bit| [&(map ^ 1 << bit).to_be_bytes(), &bytes[2..]].concat())
 }
 
 /// A record that reads: its ticket, the ticket written, and the record cut and lengthened.
-fn print_record(out: &mut impl Write, record: &[u8]) -> io::Result<()> {
-    print_ticket(out, record)?;
-    if let Ok(ticket) = read_ticket(record) {
-        for size in [31, 30, 40] {
-            write!(out, "write")?;
-            print_written(out, &ticket, size)?;
-        }
-    }
-    print_cuts(out, record, |bytes| number(read_ticket(bytes)))
+fn add_record(vectors: &mut Vec<Vector>, record: &[u8]) {
+    vectors.push(Vector::Ticket(record.to_vec()));
+    let sizes = [31, 30, 40];
+    vectors.extend(sizes.map(|size| Vector::Write(size, record.to_vec())));
+    vectors.extend(cuts(record).map(Vector::Ticket));
 }
 
-fn print_records(out: &mut impl Write) -> io::Result<()> {
+fn add_records(vectors: &mut Vec<Vector>) {
     for map in TICKET_MAPS {
-        print_record(out, &shortest_record(map))?;
-        print_record(out, &longest_record(map))?;
-        print_flips(out, &longest_record(map), |bytes| number(read_ticket(bytes)))?;
+        add_record(vectors, &shortest_record(map));
+        add_record(vectors, &longest_record(map));
+        vectors.extend(flips(&longest_record(map)).map(Vector::Ticket));
     }
     for record in [TICKET_0, TICKET_1, TICKET_2].iter().chain(&ODD_TICKETS) {
-        print_record(out, record)?;
+        add_record(vectors, record);
     }
-    print_record(out, &record(0x03FF, iter::repeat(0xFF), 8))
+    add_record(vectors, &record(0x03FF, iter::repeat(0xFF), 8));
 }
 
-fn print_refused_records(out: &mut impl Write) -> io::Result<()> {
+/// Trails of no, nine and 255 accounts, and maps that no origin has; then each map of the named bits
+/// with the fields that it calls for.
+fn add_refused_records(vectors: &mut Vec<Vector>) {
     for map in [0x01FF, 0x03FF] {
-        for hops in [0, 9, 255] {
-            print_ticket(out, &counting_record(map, hops))?;
-        }
+        vectors.extend([0, 9, 255].map(|hops| Vector::Ticket(counting_record(map, hops))));
     }
-    print_ticket(out, b"\x00\x00")?;
-    for map in [0x0637, 0x0437, 0x05FF, 0x0B7F] {
-        print_ticket(out, &longest_record(map))?;
-    }
-    Ok(())
-}
-
-/// Prints which maps of the named bits the reader takes, given the fields that each calls for.
-fn print_ticket_maps(out: &mut impl Write) -> io::Result<()> {
-    let mut refused = 0;
-    write!(out, "records -> ")?;
-    for map in 0..=0x07FF_u16 {
-        match read_ticket(&record(map, iter::repeat(1), 1)) {
-            Ok(_) => write!(out, "{map:04x} ")?,
-            Err(_) => refused += 1,
-        }
-    }
-    writeln!(out, "refused {refused}")
+    let maps = [0x0637, 0x0437, 0x05FF, 0x0B7F];
+    vectors.extend(maps.map(|map| Vector::Ticket(longest_record(map))));
+    vectors.extend((0..=0x07FF).map(|map| Vector::Ticket(record(map, iter::repeat(1), 1))));
 }
 
 /// A ticket made by hand that has a record, of this origin and trail.
@@ -213,7 +268,6 @@ fn made_ticket(origin: Origin, hops: u8, trail: Trail) -> Ticket {
     }
 }
 
-const NO_TRAIL: Trail = [0; 8];
 const FULL_TRAIL: Trail = [1, 2, 3, 4, 5, 6, 7, 8];
 /// A trail of two accounts with a stale byte after them.
 const STALE_TRAIL: Trail = [1, 2, 3, 0, 0, 0, 0, 0];
@@ -221,138 +275,103 @@ const DIRECT: Origin = Origin::Direct { tgt: 0x0506 };
 const SELF: Origin = Origin::SelfIssued { tgt: 0x0506 };
 const DELEGATED: Origin = Origin::Delegated { tgt: 0x0506, evidence: 0x0708 };
 
-/// Ticket values that the reader never gives.
-fn print_refused_tickets(out: &mut impl Write) -> io::Result<()> {
+/// Ticket values that the reader never gives, and two that it gives, written to outputs that are
+/// large enough and too small.
+fn add_values(vectors: &mut Vec<Vector>) {
     let initial = made_ticket(Origin::Initial, 0, NO_TRAIL);
     let refused = [
-        ("initial-service", Ticket { service: 1, ..initial }),
-        ("initial-trail", made_ticket(Origin::Initial, 1, [5, 0, 0, 0, 0, 0, 0, 0])),
-        ("direct-hops", made_ticket(DIRECT, 1, NO_TRAIL)),
-        ("self-stale", made_ticket(SELF, 0, [0, 0, 0, 0, 0, 0, 0, 9])),
-        ("delegated-hops-0", made_ticket(DELEGATED, 0, NO_TRAIL)),
-        ("delegated-hops-9", made_ticket(DELEGATED, 9, FULL_TRAIL)),
-        ("delegated-stale", made_ticket(DELEGATED, 2, STALE_TRAIL)),
+        Ticket { service: 1, ..initial },
+        made_ticket(Origin::Initial, 1, [5, 0, 0, 0, 0, 0, 0, 0]),
+        made_ticket(DIRECT, 1, NO_TRAIL),
+        made_ticket(SELF, 0, [0, 0, 0, 0, 0, 0, 0, 9]),
+        made_ticket(DELEGATED, 0, NO_TRAIL),
+        made_ticket(DELEGATED, 9, FULL_TRAIL),
+        made_ticket(DELEGATED, 2, STALE_TRAIL),
     ];
-    for (label, ticket) in refused {
-        for size in [31, 30] {
-            write!(out, "refuse {label}")?;
-            print_written(out, &ticket, size)?;
-        }
+    for ticket in refused {
+        vectors.extend([31, 30].map(|size| Vector::Value(size, ticket)));
     }
-    Ok(())
+    for ticket in [initial, made_ticket(DELEGATED, 8, FULL_TRAIL)] {
+        vectors.extend([0, 30, 31, 32].map(|size| Vector::Value(size, ticket)));
+    }
 }
 
-fn print_written_tickets(out: &mut impl Write) -> io::Result<()> {
-    let written = [
-        ("initial", made_ticket(Origin::Initial, 0, NO_TRAIL)),
-        ("delegated", made_ticket(DELEGATED, 8, FULL_TRAIL)),
-    ];
-    for (label, ticket) in written {
-        for size in [0, 30, 31, 32] {
-            write!(out, "good {label}")?;
-            print_written(out, &ticket, size)?;
-        }
-    }
-    Ok(())
-}
-
-/// Prints, for an origin and a length of the trail, the writer's answers to a trail of zeros and to
-/// one with a single other byte, in each place.
-fn print_trail(out: &mut impl Write, label: &str, origin: Origin, hops: u8) -> io::Result<()> {
-    let answer = |trail| {
-        let ticket = made_ticket(origin, hops, trail);
-        number(write_ticket(&ticket, &mut [0; LONGEST_RECORD]))
-    };
-    write!(out, "trail {label} {hops} -> {}", answer(NO_TRAIL))?;
-    for place in 0..8 {
+/// A trail of zeros, and trails with a single other byte, in each place.
+fn single_trails() -> impl Iterator<Item = Trail> {
+    let single = |place| {
         let mut trail = NO_TRAIL;
         trail[place] = 1;
-        write!(out, " {}", answer(trail))?;
-    }
-    writeln!(out)
+        trail
+    };
+    iter::once(NO_TRAIL).chain((0..8).map(single))
 }
 
-fn print_trails(out: &mut impl Write) -> io::Result<()> {
-    let origins = [
-        ("initial", Origin::Initial),
-        ("direct", DIRECT),
-        ("self", SELF),
-        ("delegated", DELEGATED),
-    ];
-    for (label, origin) in origins {
+/// Each origin with each length of the trail, and with each of these trails.
+fn add_trails(vectors: &mut Vec<Vector>) {
+    for origin in [Origin::Initial, DIRECT, SELF, DELEGATED] {
         for hops in 0..=9 {
-            print_trail(out, label, origin, hops)?;
+            let tickets = single_trails().map(|trail| made_ticket(origin, hops, trail));
+            vectors.extend(tickets.map(|ticket| Vector::Value(31, ticket)));
         }
     }
-    Ok(())
-}
-
-fn print_same(out: &mut impl Write, label: &str, left: Ticket, right: Ticket) -> io::Result<()> {
-    writeln!(out, "same {label} -> {}", u8::from(left == right))
 }
 
 /// Copies of a delegated ticket, each with one field altered.
-fn altered_copies(ticket: Ticket) -> [(&'static str, Ticket); 19] {
+fn altered_copies(ticket: Ticket) -> [Ticket; 19] {
     let Ticket { number, flags, client, service, start, end, .. } = ticket;
     let delegated = |tgt, evidence| Origin::Delegated { tgt, evidence };
     [
-        ("number", Ticket { number: number ^ 1, ..ticket }),
-        ("number-high", Ticket { number: number ^ 0x8000, ..ticket }),
-        ("flags", Ticket { flags: flags ^ 1, ..ticket }),
-        ("flags-high", Ticket { flags: flags ^ 0x8000_0000, ..ticket }),
-        ("client", Ticket { client: client ^ 1, ..ticket }),
-        ("client-high", Ticket { client: client ^ 0x80, ..ticket }),
-        ("service", Ticket { service: service ^ 1, ..ticket }),
-        ("service-high", Ticket { service: service ^ 0x80, ..ticket }),
-        ("start", Ticket { start: start ^ 1, ..ticket }),
-        ("start-high", Ticket { start: start ^ 0x8000_0000, ..ticket }),
-        ("end", Ticket { end: end ^ 1, ..ticket }),
-        ("end-high", Ticket { end: end ^ 0x8000_0000, ..ticket }),
-        ("origin", Ticket { origin: SELF, ..ticket }),
-        ("tgt", Ticket { origin: delegated(0x0507, 0x0708), ..ticket }),
-        ("tgt-high", Ticket { origin: delegated(0x8506, 0x0708), ..ticket }),
-        ("evidence", Ticket { origin: delegated(0x0506, 0x0709), ..ticket }),
-        ("evidence-high", Ticket { origin: delegated(0x0506, 0x8708), ..ticket }),
-        ("hops", Ticket { hops: 7, ..ticket }),
-        ("barred", Ticket { barred: true, ..ticket }),
+        Ticket { number: number ^ 1, ..ticket },
+        Ticket { number: number ^ 0x8000, ..ticket },
+        Ticket { flags: flags ^ 1, ..ticket },
+        Ticket { flags: flags ^ 0x8000_0000, ..ticket },
+        Ticket { client: client ^ 1, ..ticket },
+        Ticket { client: client ^ 0x80, ..ticket },
+        Ticket { service: service ^ 1, ..ticket },
+        Ticket { service: service ^ 0x80, ..ticket },
+        Ticket { start: start ^ 1, ..ticket },
+        Ticket { start: start ^ 0x8000_0000, ..ticket },
+        Ticket { end: end ^ 1, ..ticket },
+        Ticket { end: end ^ 0x8000_0000, ..ticket },
+        Ticket { origin: SELF, ..ticket },
+        Ticket { origin: delegated(0x0507, 0x0708), ..ticket },
+        Ticket { origin: delegated(0x8506, 0x0708), ..ticket },
+        Ticket { origin: delegated(0x0506, 0x0709), ..ticket },
+        Ticket { origin: delegated(0x0506, 0x8708), ..ticket },
+        Ticket { hops: 7, ..ticket },
+        Ticket { barred: true, ..ticket },
     ]
 }
 
 /// A ticket against itself, and against copies with one field or one place of the trail altered.
-fn print_equality(out: &mut impl Write) -> io::Result<()> {
+fn add_comparisons(vectors: &mut Vec<Vector>) {
     let ticket = made_ticket(DELEGATED, 8, FULL_TRAIL);
-    print_same(out, "itself", ticket, ticket)?;
-    for (label, copy) in altered_copies(ticket) {
-        print_same(out, label, ticket, copy)?;
-    }
+    vectors.push(Vector::Same(ticket, ticket));
+    vectors.extend(altered_copies(ticket).map(|copy| Vector::Same(ticket, copy)));
     for place in 0..8 {
         let mut copy = ticket;
         copy.trail[place] ^= 0x80;
-        print_same(out, &format!("trail-{place}"), ticket, copy)?;
+        vectors.push(Vector::Same(ticket, copy));
     }
     let two_hops = made_ticket(DELEGATED, 2, [1, 2, 0, 0, 0, 0, 0, 0]);
-    print_same(out, "stale", two_hops, Ticket { trail: STALE_TRAIL, ..two_hops })
+    vectors.push(Vector::Same(two_hops, Ticket { trail: STALE_TRAIL, ..two_hops }));
 }
 
 /// Tickets of each origin against one another, alike but for the origin.
-fn print_origin_equality(out: &mut impl Write) -> io::Result<()> {
+fn add_origin_comparisons(vectors: &mut Vec<Vector>) {
     let ticket = made_ticket(SELF, 0, NO_TRAIL);
-    let origins = [
-        ("initial", Origin::Initial),
-        ("direct", DIRECT),
-        ("direct-other", Origin::Direct { tgt: 0x0507 }),
-        ("self", SELF),
-        ("self-other", Origin::SelfIssued { tgt: 0x0507 }),
-        ("delegated", DELEGATED),
-    ];
-    for (left_label, left) in origins {
-        for (right_label, right) in origins {
-            let label = format!("{left_label} {right_label}");
-            let left = Ticket { origin: left, ..ticket };
-            print_same(out, &label, left, Ticket { origin: right, ..ticket })?;
-        }
+    let tickets = [
+        Origin::Initial,
+        DIRECT,
+        Origin::Direct { tgt: 0x0507 },
+        SELF,
+        Origin::SelfIssued { tgt: 0x0507 },
+        DELEGATED,
+    ]
+    .map(|origin| Ticket { origin, ..ticket });
+    for left in tickets {
+        vectors.extend(tickets.map(|right| Vector::Same(left, right)));
     }
-    Ok(())
 }
 
 /// W2: kind 3 for `tech`, with this TGT field.
@@ -360,58 +379,41 @@ fn w2_with(tgt: &[u8]) -> Vec<u8> {
     [b"\x00\x51\x03", tgt, &counted(b"tech")].concat()
 }
 
-fn print_request(out: &mut impl Write, bytes: &[u8]) -> io::Result<()> {
-    write!(out, "request {} -> ", Hex(bytes))?;
-    let Request { kind, options, pac_options, till } = match read_request(bytes) {
-        Ok(request) => request,
-        Err(error) => return writeln!(out, "{}", error.number()),
-    };
-    let (kind, tgt, evidence, user, service) = match kind {
-        Kind::Initial { user } => (1, 0, 0, Some(user), None),
-        Kind::Direct { tgt, service } => (2, tgt.number, 0, None, Some(service)),
-        Kind::S4u2self { tgt, user } => (3, tgt.number, 0, Some(user), None),
-        Kind::S4u2proxy { tgt, evidence, service } => {
-            (4, tgt.number, evidence.number, None, Some(service))
-        }
-    };
-    write!(out, "0 kind={kind} options={options:08x} pac={pac_options:08x} till={till}")?;
-    write!(out, " tgt={tgt} evidence={evidence}")?;
-    let place = |name| Place { request: bytes, name };
-    writeln!(out, " user={} service={}", place(user), place(service))
-}
-
-fn print_readable_requests(out: &mut impl Write) -> io::Result<()> {
+/// The requests of the morning, cut, lengthened and with other maps.
+fn add_morning(vectors: &mut Vec<Vector>) {
     for request in [w1(), w2_with(&counted(TICKET_0)), w3_with(&counted(TICKET_1))] {
-        print_request(out, &request)?;
-        print_cuts(out, &request, |bytes| number(read_request(bytes)))?;
-        print_flips(out, &request, |bytes| number(read_request(bytes)))?;
+        vectors.push(Vector::Request(request.clone()));
+        vectors.extend(cuts(&request).chain(flips(&request)).map(Vector::Request));
     }
-    Ok(())
 }
 
 /// Requests of each kind with an empty name and with one of 255 bytes, each other than the next.
-fn print_names(out: &mut impl Write) -> io::Result<()> {
+fn add_names(vectors: &mut Vec<Vector>) {
     let long_name: Vec<u8> = (0..255).collect();
     for name in [&[][..], &long_name] {
         let (tgt, evidence, name) = (counted(TICKET_0), counted(TICKET_1), counted(name));
-        print_request(out, &[&b"\x00\x41\x01"[..], &name].concat())?;
-        print_request(out, &[b"\x00\x91\x02", &tgt[..], &name].concat())?;
-        print_request(out, &[b"\x00\x51\x03", &tgt[..], &name].concat())?;
-        let head = b"\x00\xb3\x04\x00\x02\x00\x00";
-        print_request(out, &[head, &tgt[..], &evidence, &name].concat())?;
+        let requests = [
+            [&b"\x00\x41\x01"[..], &name].concat(),
+            [b"\x00\x91\x02", &tgt[..], &name].concat(),
+            [b"\x00\x51\x03", &tgt[..], &name].concat(),
+            [b"\x00\xb3\x04\x00\x02\x00\x00", &tgt[..], &evidence, &name].concat(),
+        ];
+        vectors.extend(requests.map(Vector::Request));
     }
-    Ok(())
 }
 
 /// Requests with all option bits and the latest till, and with the longest record as either ticket.
-fn print_extremes(out: &mut impl Write) -> io::Result<()> {
+fn add_extremes(vectors: &mut Vec<Vector>) {
     let (longest, shortest) = (counted(&longest_record(0x03FF)), counted(&shortest_record(0x0037)));
     let name = counted(b"web");
-    print_request(out, &[b"\x00\x4b\x01", &[0xFF; 8][..], &name].concat())?;
-    print_request(out, &[b"\x00\x9b\x02", &[0xFF; 8][..], &longest, &name].concat())?;
-    print_request(out, &[b"\x00\x5b\x03", &[0xFF; 8][..], &longest, &name].concat())?;
-    print_request(out, &[b"\x00\xbf\x04", &[0xFF; 12][..], &longest, &shortest, &name].concat())?;
-    print_request(out, &[b"\x00\xbf\x04", &[0xFF; 12][..], &shortest, &longest, &name].concat())
+    let requests = [
+        [b"\x00\x4b\x01", &[0xFF; 8][..], &name].concat(),
+        [b"\x00\x9b\x02", &[0xFF; 8][..], &longest, &name].concat(),
+        [b"\x00\x5b\x03", &[0xFF; 8][..], &longest, &name].concat(),
+        [b"\x00\xbf\x04", &[0xFF; 12][..], &longest, &shortest, &name].concat(),
+        [b"\x00\xbf\x04", &[0xFF; 12][..], &shortest, &longest, &name].concat(),
+    ];
+    vectors.extend(requests.map(Vector::Request));
 }
 
 /// The request of a kind byte with exactly the fields that a map calls for.
@@ -435,19 +437,14 @@ fn mapped_request(kind: u8, map: u16) -> Vec<u8> {
     request
 }
 
-/// Prints which maps a kind takes, and the requests that have them.
-fn print_kind(out: &mut impl Write, kind: u8) -> io::Result<()> {
-    let (accepted, refused): (Vec<u16>, Vec<u16>) =
-        (0..=0x01FF).partition(|&map| read_request(&mapped_request(kind, map)).is_ok());
-    write!(out, "maps {kind} -> ")?;
-    for map in &accepted {
-        write!(out, "{map:02x} ")?;
+/// Each kind byte with every map below 0x200, and with each higher bit beside a map that it takes.
+fn add_kinds(vectors: &mut Vec<Vector>) {
+    for kind in [0, 1, 2, 3, 4, 5, 255] {
+        vectors.extend((0..0x0200).map(|map| Vector::Request(mapped_request(kind, map))));
+        let taken = (0..0x0100).filter(|&map| read_request(&mapped_request(kind, map)).is_ok());
+        let higher = taken.flat_map(|map| (9..16).map(move |bit| map | 1 << bit));
+        vectors.extend(higher.map(|map| Vector::Request(mapped_request(kind, map))));
     }
-    writeln!(out, "refused {}", refused.len())?;
-    for map in accepted {
-        print_request(out, &mapped_request(kind, map))?;
-    }
-    Ok(())
 }
 
 /// A ticket field whose length byte is not its record's length, or whose record has a byte too many
@@ -465,32 +462,40 @@ fn bad_ticket_fields(record: &[u8]) -> [Vec<u8>; 6] {
     ]
 }
 
-fn print_bad_ticket_fields(out: &mut impl Write) -> io::Result<()> {
-    for tgt in bad_ticket_fields(TICKET_0) {
-        print_request(out, &w2_with(&tgt))?;
-    }
-    for evidence in bad_ticket_fields(TICKET_1) {
-        print_request(out, &w3_with(&evidence))?;
-    }
-    Ok(())
+fn add_bad_ticket_fields(vectors: &mut Vec<Vector>) {
+    vectors.extend(bad_ticket_fields(TICKET_0).map(|tgt| Vector::Request(w2_with(&tgt))));
+    vectors.extend(bad_ticket_fields(TICKET_1).map(|evidence| Vector::Request(w3_with(&evidence))));
+}
+
+/// All vectors, each once: records share their shortest parts, and requests without a kind byte are
+/// the same for every kind.
+fn vectors() -> Vec<Vector> {
+    let mut vectors = Vec::new();
+    add_records(&mut vectors);
+    add_refused_records(&mut vectors);
+    add_values(&mut vectors);
+    add_trails(&mut vectors);
+    add_comparisons(&mut vectors);
+    add_origin_comparisons(&mut vectors);
+    add_morning(&mut vectors);
+    add_names(&mut vectors);
+    add_extremes(&mut vectors);
+    add_kinds(&mut vectors);
+    add_bad_ticket_fields(&mut vectors);
+    let mut seen = HashSet::new();
+    vectors.retain(|vector| seen.insert(vector.to_string()));
+    vectors
 }
 
 fn main() -> io::Result<()> {
+    let file = env::args().nth(1);
     let mut out = BufWriter::new(io::stdout().lock());
-    print_records(&mut out)?;
-    print_refused_records(&mut out)?;
-    print_ticket_maps(&mut out)?;
-    print_refused_tickets(&mut out)?;
-    print_written_tickets(&mut out)?;
-    print_trails(&mut out)?;
-    print_equality(&mut out)?;
-    print_origin_equality(&mut out)?;
-    print_readable_requests(&mut out)?;
-    print_names(&mut out)?;
-    print_extremes(&mut out)?;
-    for kind in [0, 1, 2, 3, 4, 5, 255] {
-        print_kind(&mut out, kind)?;
+    for vector in vectors() {
+        match file.as_deref() {
+            Some("stdin") => writeln!(out, "{vector}")?,
+            Some("stdout") => writeln!(out, "{vector} -> {}", vector.answer())?,
+            _ => return Err(io::Error::other("name the file to print: stdin or stdout")),
+        }
     }
-    print_bad_ticket_fields(&mut out)?;
     out.flush()
 }

@@ -1,6 +1,6 @@
-use mathlib.Core.Path.{_≡_, refl, sym, _∙_}
+use mathlib.Core.Path.{refl, sym, _∙_}
 use denote.Ref.{now}
-use Rattle.ledger.proofs.Places.{among-more, among-one}
+use Rattle.definitions.proofs.Places.{among-more, among-one}
 use borrow.Author.Needs.{needs}
 use Rattle.ledger.proofs.among_two.Statement.{statement}
 use Rattle.ledger.proofs.among_two.Tie as tie

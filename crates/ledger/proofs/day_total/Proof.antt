@@ -2,10 +2,10 @@ use mathlib.Core.Path.{_≡_, ap}
 use Prim.Native.Nat.{_+_, _*_, _≤_, _-_}
 use native.Mathlib.Omega.{arith}
 use denote.Ref.{now}
-use Rattle.ledger.specs.Words.{ticketsFrom, ticketsOf}
-use Rattle.ledger.specs.Totals.{dayTotal}
-use Rattle.ledger.proofs.Words.{tickets-start}
-use Rattle.ledger.proofs.Totals.{total-on, total-end}
+use Rattle.definitions.specs.Words.{ticketsFrom, ticketsOf}
+use Rattle.definitions.specs.Totals.{dayTotal}
+use Rattle.definitions.proofs.Words.{tickets-start}
+use Rattle.definitions.proofs.Totals.{total-on, total-end}
 use borrow.Author.Needs.{needs}
 use Rattle.ledger.proofs.day_total.Statement.{statement}
 use Rattle.ledger.proofs.day_total.Tie as tie

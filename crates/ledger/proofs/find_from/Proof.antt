@@ -2,9 +2,9 @@ use mathlib.Core.Path.{_≡_, ap, sym, _∙_}
 use Prim.Native.Nat.{_≤_, _-_}
 use native.Mathlib.Omega.{arith}
 use denote.Ref.{now}
-use Rattle.ledger.specs.Words.{ticketsFrom}
-use Rattle.ledger.specs.Places.{firstOf, heldTicket}
-use Rattle.ledger.proofs.Places.{first-here, first-on, first-end}
+use Rattle.definitions.specs.Words.{ticketsFrom}
+use Rattle.definitions.specs.Places.{firstOf, heldTicket}
+use Rattle.definitions.proofs.Places.{first-here, first-on, first-end}
 use borrow.Author.Needs.{needs}
 use Rattle.ledger.proofs.find_from.Statement.{statement}
 use Rattle.ledger.proofs.find_from.Tie as tie

@@ -1,9 +1,9 @@
-use mathlib.Core.Path.{_≡_, sym, ap, _∙_}
+use mathlib.Core.Path.{sym, ap, _∙_}
 use mathlib.Core.List.{List}
 use denote.Ref.{now}
-use Rattle.record.specs.declared.ticket.Ticket.{Ticket}
-use Rattle.ledger.specs.Places.{firstOf}
-use Rattle.ledger.proofs.Words.{tickets-start}
+use Rattle.definitions.specs.declared.ticket.Ticket.{Ticket}
+use Rattle.definitions.specs.Places.{firstOf}
+use Rattle.definitions.proofs.Words.{tickets-start}
 use borrow.Author.Needs.{needs}
 use Rattle.ledger.proofs.find_ticket.Statement.{statement}
 use Rattle.ledger.proofs.find_ticket.Tie as tie

@@ -1,7 +1,7 @@
-use mathlib.Core.Path.{_≡_, ap}
+use mathlib.Core.Path.{ap}
 use Prim.Native.Nat.{ℕ}
 use lib.Dec.{eqb}
-use Rattle.ledger.specs.Places.{hasNumber}
+use Rattle.definitions.specs.Search.{hasNumber}
 use borrow.Author.Needs.{needs}
 use Rattle.ledger.proofs.has_number.Statement.{statement}
 use Rattle.ledger.proofs.has_number.Tie as tie

@@ -1,4 +1,4 @@
-use Rattle.ledger.specs.Words.{originIn}
+use Rattle.definitions.specs.Words.{originIn}
 use borrow.Author.Tests.{eq-eqb, ne-eqb}
 use borrow.Author.Needs.{needs}
 use Rattle.ledger.proofs.origin_in.Statement.{statement}

@@ -1,9 +1,9 @@
 use Prim.Native.Nat.{_^_, _≤_, _<_, _-_}
 use mathlib.Core.Path.{_≡_, refl}
 use native.Mathlib.Omega.{arith}
-use Rattle.rules.specs.Accounts.{packAt}
-use Rattle.rules.proofs.Accounts.{pack-room}
-use Rattle.ledger.proofs.Words.{pack-more, pack-small}
+use Rattle.definitions.specs.Accounts.{packAt}
+use Rattle.definitions.proofs.Accounts.{pack-room}
+use Rattle.definitions.proofs.Words.{pack-more, pack-small}
 use borrow.Author.Needs.{needs}
 use Rattle.ledger.proofs.pack8.Statement.{statement}
 use Rattle.ledger.proofs.pack8.Tie as tie

@@ -1,4 +1,4 @@
-use Rattle.ledger.specs.Words.{ticketAt}
+use Rattle.definitions.specs.Words.{ticketAt}
 use borrow.Author.Needs.{needs}
 use Rattle.ledger.proofs.place.Statement.{statement}
 use Rattle.ledger.proofs.place.Tie as tie

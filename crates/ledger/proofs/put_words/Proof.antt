@@ -1,5 +1,5 @@
 use native.Mathlib.Nat.{add-assoc}
-use Rattle.rules.specs.Accounts.{putRow}
+use Rattle.definitions.specs.Accounts.{putRow}
 use borrow.Author.Needs.{needs}
 use Rattle.ledger.proofs.put_words.Statement.{statement}
 use Rattle.ledger.proofs.put_words.Tie as tie

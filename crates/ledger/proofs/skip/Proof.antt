@@ -2,10 +2,9 @@ use mathlib.Core.Path.{_≡_, refl, sym, _∙_}
 use Prim.Native.Nat.{_≤_, _-_}
 use native.Mathlib.Omega.{arith}
 use denote.Ref.{now}
-use borrow.Author.Tests.{not-true, not-false}
-use Rattle.ledger.specs.Words.{ticketsFrom}
-use Rattle.ledger.specs.Places.{firstOf}
-use Rattle.ledger.proofs.Places.{or-no, among-none}
+use Rattle.definitions.specs.Words.{ticketsFrom}
+use Rattle.definitions.specs.Places.{firstOf}
+use Rattle.definitions.proofs.Places.{or-no, among-none}
 use borrow.Author.Needs.{needs}
 use Rattle.ledger.proofs.skip.Statement.{statement}
 use Rattle.ledger.proofs.skip.Tie as tie

@@ -4,7 +4,7 @@ use mathlib.Core.Bool.{true, false}
 use lib.Dec.{ltb}
 use denote.Ref.{now}
 use borrow.Author.Tests.{lt-ltb, le-ltb}
-use Rattle.ledger.specs.Words.{countOf, storeTicket}
+use Rattle.definitions.specs.Words.{countOf, storeTicket}
 use borrow.Author.Needs.{needs}
 use Rattle.ledger.proofs.store_ticket.Statement.{statement}
 use Rattle.ledger.proofs.store_ticket.Tie as tie

@@ -1,6 +1,6 @@
 use mathlib.Core.Path.{sym}
 use borrow.Author.Tests.{lt-ltb, le-ltb}
-use Rattle.ledger.specs.Places.{heldAt}
+use Rattle.definitions.specs.Places.{heldAt}
 use borrow.Author.Needs.{needs}
 use Rattle.ledger.proofs.ticket_at.Statement.{statement}
 use Rattle.ledger.proofs.ticket_at.Tie as tie

@@ -1,4 +1,4 @@
-use Rattle.ledger.specs.Words.{ticketIn}
+use Rattle.definitions.specs.Words.{ticketIn}
 use borrow.Author.Needs.{needs}
 use Rattle.ledger.proofs.with_origin.Statement.{statement}
 use Rattle.ledger.proofs.with_origin.Tie as tie

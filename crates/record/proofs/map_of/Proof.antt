@@ -1,6 +1,5 @@
 use mathlib.Core.Path.{sym}
-use denote.Ref.{now}
-use Rattle.record.proofs.Fields.{number-two}
+use Rattle.definitions.proofs.Fields.{number-two}
 use borrow.Author.Needs.{needs}
 use Rattle.record.proofs.map_of.Statement.{statement}
 use Rattle.record.proofs.map_of.Tie as tie

@@ -1,9 +1,9 @@
-use Prim.Native.Nat.{_+_, _*_, _^_, _≤_, _<_, _-_}
+use Prim.Native.Nat.{_+_, _^_, _≤_, _<_, _-_}
 use mathlib.Core.Path.{_≡_, refl, sym}
 use native.Mathlib.Omega.{arith}
 use native.Mathlib.Numerals.{add-one}
-use Rattle.record.specs.Fields.{numberAt}
-use Rattle.record.proofs.Fields.{room, longer-number}
+use Rattle.definitions.specs.Fields.{numberAt}
+use Rattle.definitions.proofs.Fields.{room, longer-number}
 use borrow.Author.Needs.{needs}
 use Rattle.record.proofs.number.Statement.{statement}
 use Rattle.record.proofs.number.Tie as tie

@@ -1,7 +1,7 @@
 use mathlib.Core.Path.{sym, _∙_, ap}
 use denote.Ref.{now}
-use Rattle.rules.specs.Accounts.{Row}
-use Rattle.rules.proofs.Accounts.{row-of, row-above}
+use Rattle.definitions.specs.Accounts.{Row}
+use Rattle.definitions.proofs.Accounts.{row-of, row-above}
 use borrow.Author.Needs.{needs}
 use Rattle.rules.proofs.account_at.Statement.{statement}
 use Rattle.rules.proofs.account_at.Tie as tie

@@ -1,5 +1,5 @@
 use mathlib.Core.Path.{refl}
-use Rattle.rules.specs.Accounts.{byteAt}
+use Rattle.definitions.specs.Accounts.{byteAt}
 use borrow.Author.Needs.{needs}
 use Rattle.rules.proofs.byte_at.Statement.{statement}
 use Rattle.rules.proofs.byte_at.Tie as tie

@@ -1,10 +1,9 @@
 use Prim.Native.Nat.{_+_, _*_, _^_, _≤_, _<_, _-_}
-use mathlib.Core.Path.{_≡_, refl, sym, _∙_}
+use mathlib.Core.Path.{_≡_, refl}
 use native.Mathlib.Omega.{arith}
-use native.Mathlib.Nat.{add-zero}
 use denote.Ref.{now}
-use Rattle.rules.specs.Accounts.{packAt}
-use Rattle.rules.proofs.Accounts.{pack-fits, pack-room, pack-step}
+use Rattle.definitions.specs.Accounts.{packAt}
+use Rattle.definitions.proofs.Accounts.{pack-fits, pack-room, pack-step}
 use borrow.Author.Needs.{needs}
 use Rattle.rules.proofs.pack.Statement.{statement}
 use Rattle.rules.proofs.pack.Tie as tie

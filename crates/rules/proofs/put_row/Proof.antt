@@ -1,5 +1,5 @@
 use native.Mathlib.Nat.{add-assoc}
-use Rattle.rules.specs.Accounts.{putRow}
+use Rattle.definitions.specs.Accounts.{putRow}
 use borrow.Author.Needs.{needs}
 use Rattle.rules.proofs.put_row.Statement.{statement}
 use Rattle.rules.proofs.put_row.Tie as tie

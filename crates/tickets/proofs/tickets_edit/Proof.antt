@@ -1,6 +1,6 @@
 use denote.Ref.{now}
 use mathlib.Core.List.{[]}
-use Rattle.rules.specs.Edits.{editOf}
+use Rattle.definitions.specs.Edits.{editOf}
 use Rattle.tickets.proofs.Calls.{edit-call}
 use borrow.Author.Needs.{needs}
 use Rattle.tickets.proofs.tickets_edit.Statement.{statement}

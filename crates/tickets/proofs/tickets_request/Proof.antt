@@ -1,5 +1,5 @@
 use denote.Ref.{now}
-use Rattle.record.specs.declared.errors.Answer.the-variants.{Accepted, Refused}
+use Rattle.definitions.specs.declared.errors.Answer.the-variants.{Accepted, Refused}
 use Rattle.tickets.proofs.Calls.{request-call}
 use borrow.Author.Needs.{needs}
 use Rattle.tickets.proofs.tickets_request.Statement.{statement}

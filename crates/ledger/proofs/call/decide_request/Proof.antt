@@ -1,10 +1,10 @@
 use mathlib.Core.Path.{sym, _∙_}
 use denote.Ref.{now}
 use borrow.Author.Tests.{not-true, not-false}
-use Rattle.rules.specs.Accounts.{tableOf}
-use Rattle.ledger.specs.Words.{ticketsOf}
-use Rattle.ledger.proofs.Words.{tickets-length}
-use Rattle.ledger.proofs.Calls.{request-unreadable, request-short, request-decided}
+use Rattle.definitions.specs.Accounts.{tableOf}
+use Rattle.definitions.specs.Words.{ticketsOf}
+use Rattle.definitions.proofs.Words.{tickets-length}
+use Rattle.definitions.proofs.Calls.{request-unreadable, request-short, request-decided}
 use borrow.Author.Needs.{needs}
 use Rattle.ledger.proofs.call.decide_request.Statement.{statement}
 use Rattle.ledger.proofs.call.decide_request.Tie as tie

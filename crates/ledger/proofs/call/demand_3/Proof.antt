@@ -1,4 +1,4 @@
-use Rattle.ledger.proofs.Theorem.{demand3}
+use Rattle.definitions.proofs.Theorem.{demand3}
 use Rattle.ledger.proofs.call.demand_3.Statement.{statement}
 use Rattle.ledger.proofs.call.demand_3.Tie as tie
 

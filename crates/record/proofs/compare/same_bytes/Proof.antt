@@ -1,12 +1,12 @@
-use Prim.Native.Nat.{ℕ, _<_, _≤_, _-_}
-use mathlib.Core.Path.{_≡_, refl, sym, ap}
+use Prim.Native.Nat.{ℕ, _<_, _-_}
+use mathlib.Core.Path.{_≡_, ap}
 use mathlib.Core.List.{List}
 use native.Mathlib.Omega.{arith}
 use borrow.Author.Count.{below-none, below-more}
 use lib.ListN.{length, getD}
 use lib.Seq.{ext-getD}
 use denote.Ref.{now}
-use Rattle.record.proofs.Equality.{decides-yes, decides-no}
+use Rattle.definitions.proofs.Equality.{decides-yes, decides-no}
 use borrow.Author.Needs.{needs}
 use Rattle.record.proofs.compare.same_bytes.Statement.{statement}
 use Rattle.record.proofs.compare.same_bytes.Tie as tie

@@ -1,5 +1,4 @@
-use mathlib.Core.Path.{_∙_}
-use Rattle.record.proofs.Equality.{decides-number, decides-bool, decides-both, decides-as, decides-by}
+use Rattle.definitions.proofs.Equality.{decides-number, decides-bool, decides-both, decides-as, decides-by}
 use borrow.Author.Needs.{needs}
 use Rattle.record.proofs.compare.same_head.Statement.{statement}
 use Rattle.record.proofs.compare.same_head.Tie as tie

@@ -1,6 +1,6 @@
-use mathlib.Core.Path.{ap, _∙_, sym}
-use Rattle.record.specs.TicketRecords.{originMap, tgtOf, evidenceOf}
-use Rattle.record.proofs.Equality.{decides-number, decides-both, decides-as, decides-by, same-origins}
+use mathlib.Core.Path.{ap}
+use Rattle.definitions.specs.TicketRecords.{originMap, tgtOf, evidenceOf}
+use Rattle.definitions.proofs.Equality.{decides-number, decides-both, decides-as, decides-by, same-origins}
 use borrow.Author.Needs.{needs}
 use Rattle.record.proofs.compare.same_origin.Statement.{statement}
 use Rattle.record.proofs.compare.same_origin.Tie as tie

@@ -1,6 +1,6 @@
 use mathlib.Core.Path.{ap}
-use Rattle.record.specs.declared.ticket.Ticket.{Ticket}
-use Rattle.record.proofs.Equality.{decides-both, decides-as, decides-by, same-tickets}
+use Rattle.definitions.specs.declared.ticket.Ticket.{Ticket}
+use Rattle.definitions.proofs.Equality.{decides-both, decides-as, decides-by, same-tickets}
 use borrow.Author.Needs.{needs}
 use Rattle.record.proofs.compare.same_ticket.Statement.{statement}
 use Rattle.record.proofs.compare.same_ticket.Tie as tie

@@ -1,4 +1,4 @@
-use Rattle.record.proofs.Equality.{decides-number, decides-both, decides-by}
+use Rattle.definitions.proofs.Equality.{decides-number, decides-both, decides-by}
 use borrow.Author.Needs.{needs}
 use Rattle.record.proofs.compare.same_trail.Statement.{statement}
 use Rattle.record.proofs.compare.same_trail.Tie as tie

@@ -1,6 +1,6 @@
-use Rattle.record.proofs.Equality.{decides-number, decides-both, decides-as, decides-by, same-windows}
+use Rattle.definitions.proofs.Equality.{decides-number, decides-both, decides-as, decides-by, same-windows}
 use mathlib.Core.Path.{ap}
-use Rattle.record.specs.declared.window.Window.{Window}
+use Rattle.definitions.specs.declared.window.Window.{Window}
 use borrow.Author.Needs.{needs}
 use Rattle.record.proofs.compare.same_window.Statement.{statement}
 use Rattle.record.proofs.compare.same_window.Tie as tie

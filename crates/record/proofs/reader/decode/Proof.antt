@@ -1,9 +1,9 @@
-use mathlib.Core.Path.{refl, sym}
+use mathlib.Core.Path.{sym}
 use native.Mathlib.Omega.{arith}
 use denote.Ref.{now}
-use Rattle.record.specs.TicketRecords.{ticketLayout}
-use Rattle.record.proofs.Fields.{offset-first}
-use Rattle.record.proofs.TicketRecords.{readable-few, readable-fixed, readable-trail}
+use Rattle.definitions.specs.TicketRecords.{ticketLayout}
+use Rattle.definitions.proofs.Fields.{offset-first}
+use Rattle.definitions.proofs.TicketRecords.{readable-few, readable-fixed, readable-trail}
 use borrow.Author.Needs.{needs}
 use Rattle.record.proofs.reader.decode.Statement.{statement}
 use Rattle.record.proofs.reader.decode.Tie as tie

@@ -1,28 +1,29 @@
-use mathlib.Core.Path.{_≡_, refl, sym}
+use mathlib.Core.Bool.{cond}
+use mathlib.Core.Path.{_≡_, refl}
 use mathlib.Core.List.{List, [], _∷_}
 use Prim.Native.Nat.{ℕ}
-use Rattle.record.specs.Fields.{pick, presentIn, sizeAt, offsetOf}
-use Rattle.record.specs.TicketRecords.{ticketLayout, knownMap}
-use Rattle.record.proofs.Bools.{in-arm, past-arm}
-use Rattle.record.proofs.TicketRecords.{unknown}
+use Rattle.definitions.specs.Fields.{hasBit, sizeAt, offsetOf}
+use Rattle.definitions.specs.TicketRecords.{ticketLayout, knownMap}
+use Rattle.definitions.proofs.Bools.{in-arm, past-arm}
+use Rattle.definitions.proofs.TicketRecords.{unknown}
 use borrow.Author.Needs.{needs}
 use Rattle.record.proofs.reader.fixed_length.Statement.{statement}
 use Rattle.record.proofs.reader.fixed_length.Tie as tie
 
 returns : tie.Need-returns
-unfolding offsetOf sizeAt presentIn knownMap
+unfolding offsetOf sizeAt hasBit knownMap
 returns c =
-    (in-arm (λ m. (s : List ℕ) → 17 ≡ pick (knownMap m) (offsetOf ticketLayout s m 8) 0) (c .before .args .map) (0x0037 ∷ 0x0237 ∷ []) (c .match .keys1) ((λ s. refl), ((λ s. refl), tt)), search needs)
+    (in-arm (λ m. (s : List ℕ) → 17 ≡ cond (knownMap m) (offsetOf ticketLayout s m 8) 0) (c .before .args .map) (0x0037 ∷ 0x0237 ∷ []) (c .match .keys1) ((λ s. refl), ((λ s. refl), tt)), search needs)
 
 returns-2 : tie.Need-returns-2
-unfolding offsetOf sizeAt presentIn knownMap
+unfolding offsetOf sizeAt hasBit knownMap
 returns-2 c =
-    (in-arm (λ m. (s : List ℕ) → 20 ≡ pick (knownMap m) (offsetOf ticketLayout s m 8) 0) (c .before .args .map) (0x007F ∷ 0x027F ∷ 0x047F ∷ 0x067F ∷ []) (c .match .keys2) ((λ s. refl), ((λ s. refl), ((λ s. refl), ((λ s. refl), tt)))), search needs)
+    (in-arm (λ m. (s : List ℕ) → 20 ≡ cond (knownMap m) (offsetOf ticketLayout s m 8) 0) (c .before .args .map) (0x007F ∷ 0x027F ∷ 0x047F ∷ 0x067F ∷ []) (c .match .keys2) ((λ s. refl), ((λ s. refl), ((λ s. refl), ((λ s. refl), tt)))), search needs)
 
 returns-3 : tie.Need-returns-3
-unfolding offsetOf sizeAt presentIn knownMap
+unfolding offsetOf sizeAt hasBit knownMap
 returns-3 c =
-    (in-arm (λ m. (s : List ℕ) → 22 ≡ pick (knownMap m) (offsetOf ticketLayout s m 8) 0) (c .before .args .map) (0x01FF ∷ 0x03FF ∷ []) (c .match .keys3) ((λ s. refl), ((λ s. refl), tt)), search needs)
+    (in-arm (λ m. (s : List ℕ) → 22 ≡ cond (knownMap m) (offsetOf ticketLayout s m 8) 0) (c .before .args .map) (0x01FF ∷ 0x03FF ∷ []) (c .match .keys3) ((λ s. refl), ((λ s. refl), tt)), search needs)
 
 returns-4 : tie.Need-returns-4
 returns-4 c =

@@ -1,5 +1,5 @@
 use mathlib.Core.Path.{sym}
-use Rattle.record.specs.TicketRecords.{hopsFit}
+use Rattle.definitions.specs.TicketRecords.{hopsFit}
 use borrow.Author.Needs.{needs}
 use Rattle.record.proofs.reader.hops_fit.Statement.{statement}
 use Rattle.record.proofs.reader.hops_fit.Tie as tie

@@ -1,5 +1,5 @@
 use mathlib.Core.Path.{sym}
-use Rattle.record.specs.TicketRecords.{originAs}
+use Rattle.definitions.specs.TicketRecords.{originAs}
 use borrow.Author.Needs.{needs}
 use Rattle.record.proofs.reader.origin_as.Statement.{statement}
 use Rattle.record.proofs.reader.origin_as.Tie as tie

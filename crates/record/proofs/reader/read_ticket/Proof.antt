@@ -1,8 +1,7 @@
-use mathlib.Core.Path.{_≡_, sym, _∙_}
-use native.Mathlib.Omega.{arith}
+use mathlib.Core.Path.{sym, _∙_}
 use denote.Ref.{now}
-use Rattle.record.specs.TicketRecords.{accepted}
-use Rattle.record.proofs.TicketRecords.{fixed-none, fixed-some, hops-found, readable-found, read-yes, read-no, read-unknown}
+use Rattle.definitions.specs.TicketRecords.{accepted}
+use Rattle.definitions.proofs.TicketRecords.{fixed-none, fixed-some, hops-found, readable-found, read-yes, read-no, read-unknown}
 use borrow.Author.Needs.{needs}
 use Rattle.record.proofs.reader.read_ticket.Statement.{statement}
 use Rattle.record.proofs.reader.read_ticket.Tie as tie

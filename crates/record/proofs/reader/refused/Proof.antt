@@ -1,4 +1,3 @@
-use mathlib.Core.Path.{sym}
 use borrow.Author.Needs.{needs}
 use Rattle.record.proofs.reader.refused.Statement.{statement}
 use Rattle.record.proofs.reader.refused.Tie as tie

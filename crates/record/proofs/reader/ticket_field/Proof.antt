@@ -1,9 +1,8 @@
 use denote.Ref.{now}
-use native.Mathlib.Omega.{arith}
-use mathlib.Core.List.{List, [], _∷_}
-use Rattle.record.specs.TicketRecords.{ticketLayout}
-use Rattle.record.proofs.Fields.{entry-most, field-within, taken}
-use Rattle.record.proofs.TicketRecords.{readable-fixed}
+use mathlib.Core.List.{[], _∷_}
+use Rattle.definitions.specs.TicketRecords.{ticketLayout}
+use Rattle.definitions.proofs.Fields.{entry-most, field-within, taken}
+use Rattle.definitions.proofs.TicketRecords.{readable-fixed}
 use borrow.Author.Needs.{needs}
 use Rattle.record.proofs.reader.ticket_field.Statement.{statement}
 use Rattle.record.proofs.reader.ticket_field.Tie as tie

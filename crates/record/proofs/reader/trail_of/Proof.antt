@@ -1,11 +1,11 @@
-use Prim.Native.Nat.{_+_, _≤_, _-_}
+use Prim.Native.Nat.{_≤_, _-_}
 use mathlib.Core.Path.{_≡_, refl, sym}
 use native.Mathlib.Omega.{arith}
 use native.Mathlib.Numerals.{add-one}
 use denote.Ref.{now}
-use Rattle.record.specs.Fields.{run}
-use Rattle.record.specs.TicketRecords.{trailOf}
-use Rattle.record.proofs.TicketRecords.{trail-step}
+use Rattle.definitions.specs.Fields.{run}
+use Rattle.definitions.specs.TicketRecords.{trailOf}
+use Rattle.definitions.proofs.TicketRecords.{trail-step}
 use borrow.Author.Needs.{needs}
 use Rattle.record.proofs.reader.trail_of.Statement.{statement}
 use Rattle.record.proofs.reader.trail_of.Tie as tie

@@ -1,10 +1,10 @@
-use mathlib.Core.Path.{refl, sym, _∙_}
-use Prim.Native.Nat.{ℕ, _+_}
+use mathlib.Core.Path.{sym, _∙_}
+use Prim.Native.Nat.{ℕ}
 use mathlib.Core.Path.{ap}
 use native.Mathlib.Nat.{add-sub-cancel-left}
 use lib.ListN.{take, drop}
 use denote.Ref.{now}
-use Rattle.record.specs.TicketRecords.{readTicket}
+use Rattle.definitions.specs.TicketRecords.{readTicket}
 use borrow.Author.Needs.{needs}
 use Rattle.record.proofs.request.embedded.Statement.{statement}
 use Rattle.record.proofs.request.embedded.Tie as tie

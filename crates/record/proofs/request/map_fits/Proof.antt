@@ -1,4 +1,4 @@
-use Rattle.record.specs.Requests.{mapFits}
+use Rattle.definitions.specs.Requests.{mapFits}
 use borrow.Author.Needs.{needs}
 use Rattle.record.proofs.request.map_fits.Statement.{statement}
 use Rattle.record.proofs.request.map_fits.Tie as tie

@@ -1,6 +1,5 @@
-use mathlib.Core.Path.{_≡_, sym, _∙_}
 use native.Mathlib.Omega.{arith}
-use Rattle.record.proofs.Requests.{numbers-length}
+use Rattle.definitions.proofs.Requests.{numbers-length}
 use borrow.Author.Needs.{needs}
 use Rattle.record.proofs.request.numbers_end.Statement.{statement}
 use Rattle.record.proofs.request.numbers_end.Tie as tie

@@ -1,5 +1,5 @@
-use mathlib.Core.Path.{refl, sym, _∙_}
-use Rattle.record.proofs.Requests.{path-table, path-below, path-above, path-other}
+use mathlib.Core.Path.{refl, _∙_}
+use Rattle.definitions.proofs.Requests.{path-table, path-below, path-above, path-other}
 use borrow.Author.Needs.{needs}
 use Rattle.record.proofs.request.path_of.Statement.{statement}
 use Rattle.record.proofs.request.path_of.Tie as tie

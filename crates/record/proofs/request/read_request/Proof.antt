@@ -1,9 +1,7 @@
-use mathlib.Core.Path.{refl, sym, _∙_}
+use mathlib.Core.Path.{sym, _∙_}
 use native.Mathlib.Omega.{arith}
-use mathlib.Core.Path.{_≡_}
 use denote.Ref.{now}
-use Rattle.record.specs.declared.request.Path.the-variants.{Decide, Refuse}
-use Rattle.record.proofs.Requests.{not-whole, request-no, read-along, read-refuse, read-short}
+use Rattle.definitions.proofs.Requests.{not-whole, request-no, read-along, read-refuse, read-short}
 use borrow.Author.Needs.{needs}
 use Rattle.record.proofs.request.read_request.Statement.{statement}
 use Rattle.record.proofs.request.read_request.Tie as tie

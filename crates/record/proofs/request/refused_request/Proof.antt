@@ -1,4 +1,3 @@
-use mathlib.Core.Path.{sym}
 use borrow.Author.Needs.{needs}
 use Rattle.record.proofs.request.refused_request.Statement.{statement}
 use Rattle.record.proofs.request.refused_request.Tie as tie

@@ -1,8 +1,7 @@
 use denote.Ref.{now}
-use native.Mathlib.Omega.{arith}
-use mathlib.Core.List.{List, [], _∷_}
-use Rattle.record.specs.Requests.{requestLayout}
-use Rattle.record.proofs.Fields.{entry-most, field-within, taken}
+use mathlib.Core.List.{[], _∷_}
+use Rattle.definitions.specs.Requests.{requestLayout}
+use Rattle.definitions.proofs.Fields.{entry-most, field-within, taken}
 use borrow.Author.Needs.{needs}
 use Rattle.record.proofs.request.request_field.Statement.{statement}
 use Rattle.record.proofs.request.request_field.Tie as tie

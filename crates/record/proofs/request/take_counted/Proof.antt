@@ -1,7 +1,6 @@
-use mathlib.Core.Path.{refl, sym, _∙_}
+use mathlib.Core.Path.{sym, _∙_}
 use denote.Ref.{now}
-use native.Mathlib.Omega.{arith}
-use Rattle.record.proofs.Requests.{span-there, span-absent}
+use Rattle.definitions.proofs.Requests.{span-there, span-absent}
 use borrow.Author.Needs.{needs}
 use Rattle.record.proofs.request.take_counted.Statement.{statement}
 use Rattle.record.proofs.request.take_counted.Tie as tie

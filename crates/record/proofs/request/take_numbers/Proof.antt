@@ -1,7 +1,7 @@
 use mathlib.Core.Path.{sym}
 use denote.Ref.{now}
-use Rattle.record.specs.Requests.{requestLayout}
-use Rattle.record.proofs.Fields.{offset-first}
+use Rattle.definitions.specs.Requests.{requestLayout}
+use Rattle.definitions.proofs.Fields.{offset-first}
 use borrow.Author.Needs.{needs}
 use Rattle.record.proofs.request.take_numbers.Statement.{statement}
 use Rattle.record.proofs.request.take_numbers.Tie as tie

@@ -1,12 +1,9 @@
 use mathlib.Core.Path.{refl, sym, _∙_}
-use mathlib.Core.Path.{_≡_}
 use native.Mathlib.Omega.{arith}
-use lib.ListN.{length}
 use denote.Ref.{now}
 use borrow.Author.Tests.{not-true, not-false}
-use Rattle.record.specs.Fields.{offsetOf}
-use Rattle.record.specs.Requests.{requestLayout, embeddedOf, wholeRequest}
-use Rattle.record.proofs.Requests.{span-within, whole-found, request-yes, request-no}
+use Rattle.definitions.specs.Requests.{embeddedOf}
+use Rattle.definitions.proofs.Requests.{span-within, whole-found, request-yes, request-no}
 use borrow.Author.Needs.{needs}
 use Rattle.record.proofs.request.with_parts.Statement.{statement}
 use Rattle.record.proofs.request.with_parts.Tie as tie

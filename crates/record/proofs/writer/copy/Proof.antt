@@ -1,11 +1,11 @@
-use Prim.Native.Nat.{suc, _+_, _≤_, _-_}
-use mathlib.Core.Path.{_≡_, refl, sym, _∙_}
+use Prim.Native.Nat.{_≤_, _-_}
+use mathlib.Core.Path.{_≡_, refl, sym}
 use native.Mathlib.Omega.{arith}
 use native.Mathlib.Numerals.{add-one}
 use lib.ListN.{length, take, length-set}
 use lib.Seq.{sets, length-take-le}
 use denote.Ref.{now}
-use Rattle.record.proofs.Output.{copy-step}
+use Rattle.definitions.proofs.Output.{copy-step}
 use borrow.Author.Needs.{needs}
 use Rattle.record.proofs.writer.copy.Statement.{statement}
 use Rattle.record.proofs.writer.copy.Tie as tie

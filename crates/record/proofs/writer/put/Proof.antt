@@ -1,10 +1,10 @@
-use Prim.Native.Nat.{suc, _+_, _≤_, _-_}
-use mathlib.Core.Path.{_≡_, refl, sym, _∙_}
+use Prim.Native.Nat.{suc, _≤_, _-_}
+use mathlib.Core.Path.{_≡_, refl, _∙_}
 use native.Mathlib.Omega.{arith}
 use lib.ListN.{length, length-set}
 use lib.Seq.{sets}
-use Rattle.record.specs.Fields.{bigEndian}
-use Rattle.record.proofs.Output.{put-step, length-bigEndian}
+use Rattle.definitions.specs.Fields.{bigEndian}
+use Rattle.definitions.proofs.Output.{put-step, length-bigEndian}
 use borrow.Author.Needs.{needs}
 use Rattle.record.proofs.writer.put.Statement.{statement}
 use Rattle.record.proofs.writer.put.Tie as tie

@@ -1,5 +1,7 @@
 use mathlib.Core.Path.{sym, _∙_}
-use Rattle.record.proofs.Output.{field-there, field-absent}
+use native.Mathlib.Omega.{arith}
+use borrow.Author.Tests.{le-leb}
+use Rattle.definitions.proofs.Output.{field-there, field-absent}
 use borrow.Author.Needs.{needs}
 use Rattle.record.proofs.writer.put_field.Statement.{statement}
 use Rattle.record.proofs.writer.put_field.Tie as tie
@@ -7,14 +9,14 @@ use Rattle.record.proofs.writer.put_field.Tie as tie
 returns : tie.Need-returns
 returns c =
     let a = c .before .before .before .before .before .before .before .args in (
-      field-there (a .map) (a .bit) (a .number) (sym (c .before .before .before .before .before .present .ensures) ∙ c .before .before .before .before .if1 .taken) (c .before .before .put .ensures .0),
+      field-there (a .map) (a .bit) (a .number) (sym (c .before .before .before .before .before .has-bit .ensures ∙ rw (le-leb (a .bit) 63 (omega arith))) ∙ c .before .before .before .before .if1 .taken) (c .before .before .put .ensures .0),
       search needs,
     )
 
 returns-2 : tie.Need-returns-2
 returns-2 c =
     let a = c .before .before .before .args in
-    (field-absent (a .map) (a .bit) (a .number) (sym (c .before .present .ensures) ∙ c .if1 .left), search needs)
+    (field-absent (a .map) (a .bit) (a .number) (sym (c .before .has-bit .ensures ∙ rw (le-leb (a .bit) 63 (omega arith))) ∙ c .if1 .left), search needs)
 
 pub put-field-spec : {M : Type 1} → statement M
 put-field-spec =

@@ -1,5 +1,5 @@
-use Rattle.record.specs.TicketRecords.{headBytes}
-use Rattle.record.proofs.Output.{after}
+use Rattle.definitions.specs.TicketRecords.{headBytes}
+use Rattle.definitions.proofs.Output.{after}
 use borrow.Author.Needs.{needs}
 use Rattle.record.proofs.writer.put_head.Statement.{statement}
 use Rattle.record.proofs.writer.put_head.Tie as tie

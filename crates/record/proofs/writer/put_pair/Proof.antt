@@ -1,5 +1,5 @@
-use Rattle.record.specs.TicketRecords.{pairBytes}
-use Rattle.record.proofs.Output.{after}
+use Rattle.definitions.specs.TicketRecords.{pairBytes}
+use Rattle.definitions.proofs.Output.{after}
 use borrow.Author.Needs.{needs}
 use Rattle.record.proofs.writer.put_pair.Statement.{statement}
 use Rattle.record.proofs.writer.put_pair.Tie as tie

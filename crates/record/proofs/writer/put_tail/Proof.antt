@@ -1,6 +1,6 @@
-use mathlib.Core.Path.{sym, _∙_}
-use Rattle.record.specs.TicketRecords.{tailBytes}
-use Rattle.record.proofs.Output.{after}
+use mathlib.Core.Path.{sym}
+use Rattle.definitions.specs.TicketRecords.{tailBytes}
+use Rattle.definitions.proofs.Output.{after}
 use borrow.Author.Needs.{needs}
 use Rattle.record.proofs.writer.put_tail.Statement.{statement}
 use Rattle.record.proofs.writer.put_tail.Tie as tie

@@ -1,7 +1,7 @@
 use mathlib.Core.Path.{sym, _∙_}
 use native.Mathlib.Omega.{arith}
 use lib.ListN.{length-set}
-use Rattle.record.proofs.Output.{trail-there, trail-absent}
+use Rattle.definitions.proofs.Output.{trail-there, trail-absent}
 use borrow.Author.Needs.{needs}
 use Rattle.record.proofs.writer.put_trail.Statement.{statement}
 use Rattle.record.proofs.writer.put_trail.Tie as tie
@@ -15,14 +15,14 @@ same-length c = c .before .before .copy .kept .0 ∙ simp length-set
 returns : tie.Need-returns
 returns c =
     let a = c .before .before .before .before .before .before .before .before .args in (
-      trail-there (a .map) (a .hops) (a .t4) (sym (c .before .before .before .before .before .before .present .ensures) ∙ c .before .before .before .before .before .if1 .taken) (c .before .before .copy .ensures .0),
+      trail-there (a .map) (a .hops) (a .t4) (sym (c .before .before .before .before .before .before .has-bit .ensures) ∙ c .before .before .before .before .before .if1 .taken) (c .before .before .copy .ensures .0),
       search needs,
     )
 
 returns-2 : tie.Need-returns-2
 returns-2 c =
     let a = c .before .before .before .args in
-    (trail-absent (a .map) (a .hops) (a .t4) (sym (c .before .present .ensures) ∙ c .if1 .left), search needs)
+    (trail-absent (a .map) (a .hops) (a .t4) (sym (c .before .has-bit .ensures) ∙ c .if1 .left), search needs)
 
 pub put-trail-spec : {M : Type 1} → statement M
 put-trail-spec =

@@ -2,8 +2,8 @@ use mathlib.Core.Path.{_≡_, ap₂, _∙_}
 use mathlib.Core.List.{[]}
 use Prim.Native.Nat.{_+_}
 use lib.ListN.{length}
-use Rattle.record.specs.TicketRecords.{recordOf}
-use Rattle.record.proofs.TicketRecords.{record-length, record-most}
+use Rattle.definitions.specs.TicketRecords.{recordOf}
+use Rattle.definitions.proofs.TicketRecords.{record-length, record-most}
 use borrow.Author.Needs.{needs}
 use Rattle.record.proofs.writer.record_length.Statement.{statement}
 use Rattle.record.proofs.writer.record_length.Tie as tie

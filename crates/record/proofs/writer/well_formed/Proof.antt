@@ -1,4 +1,4 @@
-use Rattle.record.specs.TicketRecords.{wellFormed}
+use Rattle.definitions.specs.TicketRecords.{wellFormed}
 use borrow.Author.Needs.{needs}
 use Rattle.record.proofs.writer.well_formed.Statement.{statement}
 use Rattle.record.proofs.writer.well_formed.Tie as tie

@@ -2,8 +2,9 @@ use mathlib.Core.Path.{sym, _∙_}
 use native.Mathlib.Omega.{arith}
 use denote.Ref.{now}
 use borrow.Author.Tests.{not-true, not-false}
-use Rattle.record.specs.TicketRecords.{recordAs}
-use Rattle.record.proofs.Output.{unwritable, short, written, well-hops, after}
+use Rattle.definitions.specs.TicketRecords.{recordAs}
+use Rattle.definitions.proofs.TicketRecords.{well-hops}
+use Rattle.definitions.proofs.Output.{unwritable, short, written, after}
 use borrow.Author.Needs.{needs}
 use Rattle.record.proofs.writer.write_ticket.Statement.{statement}
 use Rattle.record.proofs.writer.write_ticket.Tie as tie

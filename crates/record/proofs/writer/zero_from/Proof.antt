@@ -1,10 +1,10 @@
-use Prim.Native.Nat.{suc, _≤_, _-_}
+use Prim.Native.Nat.{_-_}
 use mathlib.Core.Path.{_≡_, refl, sym, _∙_}
 use native.Mathlib.Numerals.{add-one}
 use lib.ListN.{length, drop}
 use denote.Ref.{now}
-use Rattle.record.specs.TicketRecords.{allZero}
-use Rattle.record.proofs.Output.{zero-step, zero-stop, zero-end}
+use Rattle.definitions.specs.TicketRecords.{allZero}
+use Rattle.definitions.proofs.Output.{zero-step, zero-stop, zero-end}
 use borrow.Author.Needs.{needs}
 use Rattle.record.proofs.writer.zero_from.Statement.{statement}
 use Rattle.record.proofs.writer.zero_from.Tie as tie

@@ -1,4 +1,4 @@
-use Rattle.rules.specs.Decisions.{evidenceChecks}
+use Rattle.definitions.specs.Decisions.{evidenceChecks}
 use borrow.Author.Needs.{needs}
 use Rattle.rules.proofs.check.check_evidence.Statement.{statement}
 use Rattle.rules.proofs.check.check_evidence.Tie as tie

@@ -1,4 +1,4 @@
-use Rattle.rules.specs.Decisions.{lastChecks}
+use Rattle.definitions.specs.Decisions.{lastChecks}
 use borrow.Author.Needs.{needs}
 use Rattle.rules.proofs.check.check_last.Statement.{statement}
 use Rattle.rules.proofs.check.check_last.Tie as tie

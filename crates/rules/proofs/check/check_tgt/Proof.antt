@@ -1,4 +1,4 @@
-use Rattle.rules.specs.Decisions.{tgtChecks}
+use Rattle.definitions.specs.Decisions.{tgtChecks}
 use borrow.Author.Needs.{needs}
 use Rattle.rules.proofs.check.check_tgt.Statement.{statement}
 use Rattle.rules.proofs.check.check_tgt.Tie as tie

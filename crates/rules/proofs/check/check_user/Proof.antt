@@ -1,5 +1,4 @@
-use Rattle.rules.specs.Decisions.{userChecks}
-use Rattle.rules.proofs.Checks.{user-then}
+use Rattle.definitions.proofs.Decisions.{user-then}
 use borrow.Author.Needs.{needs}
 use Rattle.rules.proofs.check.check_user.Statement.{statement}
 use Rattle.rules.proofs.check.check_user.Tie as tie

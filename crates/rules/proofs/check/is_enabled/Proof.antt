@@ -1,4 +1,3 @@
-use Rattle.rules.specs.Accounts.{bit}
 use borrow.Author.Needs.{needs}
 use Rattle.rules.proofs.check.is_enabled.Statement.{statement}
 use Rattle.rules.proofs.check.is_enabled.Tie as tie

@@ -1,6 +1,5 @@
-use mathlib.Core.Path.{_≡_}
-use Rattle.record.specs.Equality.{sameTicket}
-use Rattle.record.proofs.Equality.{decides-once, decides-ticket}
+use Rattle.definitions.specs.Equality.{sameTicket}
+use Rattle.definitions.proofs.Equality.{decides-once, decides-ticket}
 use borrow.Author.Needs.{needs}
 use Rattle.rules.proofs.check.is_held.Statement.{statement}
 use Rattle.rules.proofs.check.is_held.Tie as tie

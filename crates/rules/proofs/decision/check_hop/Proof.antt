@@ -1,5 +1,4 @@
-use mathlib.Core.Path.{_≡_, sym, _∙_}
-use Rattle.rules.specs.Decisions.{hopChecks}
+use Rattle.definitions.specs.Decisions.{hopChecks}
 use borrow.Author.Needs.{needs}
 use Rattle.rules.proofs.decision.check_hop.Statement.{statement}
 use Rattle.rules.proofs.decision.check_hop.Tie as tie

@@ -1,8 +1,7 @@
 use denote.Ref.{now}
-use Rattle.record.specs.declared.request.Kind.the-variants as kind
-use Rattle.rules.specs.Accounts.{tableOf}
-use Rattle.rules.proofs.Decisions.{decide-as}
-use mathlib.Core.Path.{_≡_, refl, sym, ap, _∙_}
+use Rattle.definitions.specs.declared.request.Kind.the-variants as kind
+use Rattle.definitions.specs.Accounts.{tableOf}
+use Rattle.definitions.proofs.Decisions.{decide-as}
 use borrow.Author.Needs.{needs}
 use Rattle.rules.proofs.decision.decide.Statement.{statement}
 use Rattle.rules.proofs.decision.decide.Tie as tie

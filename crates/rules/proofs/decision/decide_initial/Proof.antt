@@ -1,8 +1,7 @@
-use mathlib.Core.Path.{_≡_, refl, sym, ap, _∙_}
+use mathlib.Core.Path.{sym, _∙_}
 use denote.Ref.{now}
-use native.Mathlib.Omega.{arith}
-use Rattle.rules.specs.Accounts.{tableOf}
-use Rattle.rules.proofs.Decisions.{initial-count, initial-refused, initial-granted}
+use Rattle.definitions.specs.Accounts.{tableOf}
+use Rattle.definitions.proofs.Decisions.{initial-count, initial-refused, initial-granted}
 use borrow.Author.Needs.{needs}
 use Rattle.rules.proofs.decision.decide_initial.Statement.{statement}
 use Rattle.rules.proofs.decision.decide_initial.Tie as tie

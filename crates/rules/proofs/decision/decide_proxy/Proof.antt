@@ -1,11 +1,8 @@
-use mathlib.Core.Path.{_≡_, refl, sym, ap, _∙_}
+use mathlib.Core.Path.{sym, _∙_}
 use denote.Ref.{now}
-use native.Mathlib.Omega.{arith}
-use Rattle.rules.specs.Accounts.{tableOf}
-use lib.Dec.{ltb}
-use borrow.Author.Tests.{ltb-true}
-use Rattle.rules.proofs.Checks.{is-accepted}
-use Rattle.rules.proofs.Decisions.{hop-count, hop-few, proxy-refused, proxy-granted}
+use Rattle.definitions.specs.Accounts.{tableOf}
+use Rattle.definitions.proofs.Checks.{is-accepted}
+use Rattle.definitions.proofs.Decisions.{hop-count, hop-few, proxy-refused, proxy-granted}
 use borrow.Author.Needs.{needs}
 use Rattle.rules.proofs.decision.decide_proxy.Statement.{statement}
 use Rattle.rules.proofs.decision.decide_proxy.Tie as tie

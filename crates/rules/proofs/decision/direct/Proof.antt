@@ -1,11 +1,9 @@
-use mathlib.Core.Path.{_≡_, refl, sym, ap, _∙_}
+use mathlib.Core.Path.{sym, ap, _∙_}
 use denote.Ref.{now}
-use native.Mathlib.Omega.{arith}
-use Rattle.rules.specs.Accounts.{tableOf}
-use Rattle.rules.specs.Decisions.{userOf, serviceOf, decideInitial, decideDirect, decideSelf, decideProxy}
-use Rattle.rules.proofs.Checks.{is-accepted}
-use Prim.Native.Nat.{ℕ}
-use Rattle.rules.proofs.Decisions.{direct-stopped}
+use Rattle.definitions.specs.Accounts.{tableOf}
+use Rattle.definitions.specs.Decisions.{serviceOf, decideDirect}
+use Rattle.definitions.proofs.Checks.{is-accepted}
+use Rattle.definitions.proofs.Decisions.{direct-stopped}
 use borrow.Author.Needs.{needs}
 use Rattle.rules.proofs.decision.direct.Statement.{statement}
 use Rattle.rules.proofs.decision.direct.Tie as tie

@@ -1,4 +1,4 @@
-use Rattle.rules.specs.Decisions.{directTicket}
+use Rattle.definitions.specs.Decisions.{directTicket}
 use borrow.Author.Needs.{needs}
 use Rattle.rules.proofs.decision.direct_ticket.Statement.{statement}
 use Rattle.rules.proofs.decision.direct_ticket.Tie as tie

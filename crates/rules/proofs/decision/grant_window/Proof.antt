@@ -1,4 +1,4 @@
-use Rattle.rules.specs.Decisions.{grantWindow}
+use Rattle.definitions.specs.Decisions.{grantWindow}
 use borrow.Author.Needs.{needs}
 use Rattle.rules.proofs.decision.grant_window.Statement.{statement}
 use Rattle.rules.proofs.decision.grant_window.Tie as tie

@@ -1,4 +1,4 @@
-use Rattle.rules.specs.Decisions.{hopWindow}
+use Rattle.definitions.specs.Decisions.{hopWindow}
 use borrow.Author.Needs.{needs}
 use Rattle.rules.proofs.decision.hop_window.Statement.{statement}
 use Rattle.rules.proofs.decision.hop_window.Tie as tie

@@ -1,11 +1,8 @@
-use mathlib.Core.Path.{_≡_, refl, sym, ap, _∙_}
+use mathlib.Core.Path.{ap, _∙_}
 use denote.Ref.{now}
-use native.Mathlib.Omega.{arith}
-use Rattle.rules.specs.Accounts.{tableOf}
-use Rattle.rules.specs.Decisions.{userOf, serviceOf, decideInitial, decideDirect, decideSelf, decideProxy}
-use Rattle.rules.proofs.Checks.{is-accepted}
-use Prim.Native.Nat.{ℕ}
-use Rattle.rules.proofs.Decisions.{initial-short}
+use Rattle.definitions.specs.Accounts.{tableOf}
+use Rattle.definitions.specs.Decisions.{userOf, decideInitial}
+use Rattle.definitions.proofs.Decisions.{initial-short}
 use borrow.Author.Needs.{needs}
 use Rattle.rules.proofs.decision.initial.Statement.{statement}
 use Rattle.rules.proofs.decision.initial.Tie as tie

@@ -1,4 +1,4 @@
-use Rattle.rules.specs.Decisions.{initialTicket}
+use Rattle.definitions.specs.Decisions.{initialTicket}
 use borrow.Author.Needs.{needs}
 use Rattle.rules.proofs.decision.initial_ticket.Statement.{statement}
 use Rattle.rules.proofs.decision.initial_ticket.Tie as tie

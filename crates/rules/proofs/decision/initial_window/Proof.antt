@@ -1,4 +1,4 @@
-use Rattle.rules.specs.Decisions.{initialWindow}
+use Rattle.definitions.specs.Decisions.{initialWindow}
 use borrow.Author.Needs.{needs}
 use Rattle.rules.proofs.decision.initial_window.Statement.{statement}
 use Rattle.rules.proofs.decision.initial_window.Tie as tie

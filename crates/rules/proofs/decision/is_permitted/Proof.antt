@@ -1,4 +1,4 @@
-use Rattle.rules.specs.Decisions.{classicRoute, resourceRoute, permitted}
+use Rattle.definitions.specs.Decisions.{classicRoute, resourceRoute, permitted}
 use borrow.Author.Needs.{needs}
 use Rattle.rules.proofs.decision.is_permitted.Statement.{statement}
 use Rattle.rules.proofs.decision.is_permitted.Tie as tie

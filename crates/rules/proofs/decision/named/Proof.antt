@@ -1,13 +1,11 @@
-use mathlib.Core.Path.{_≡_, refl, sym, ap, _∙_}
+use mathlib.Core.Path.{ap, _∙_}
 use Prim.Native.Nat.{ℕ}
-use mathlib.Core.List.{List}
-use native.Mathlib.Omega.{arith}
 use native.Mathlib.Nat.{add-sub-cancel-left}
 use lib.ListN.{take, drop}
 use denote.Ref.{now}
-use Rattle.rules.specs.Accounts.{tableOf}
-use Rattle.rules.specs.Names.{findName}
-use Rattle.rules.proofs.Decisions.{part-past, part-rest}
+use Rattle.definitions.specs.Accounts.{tableOf}
+use Rattle.definitions.specs.Names.{findName}
+use Rattle.definitions.proofs.Decisions.{part-past, part-rest}
 use borrow.Author.Needs.{needs}
 use Rattle.rules.proofs.decision.named.Statement.{statement}
 use Rattle.rules.proofs.decision.named.Tie as tie

@@ -1,11 +1,9 @@
-use mathlib.Core.Path.{_≡_, refl, sym, ap, _∙_}
+use mathlib.Core.Path.{sym, ap, _∙_}
 use denote.Ref.{now}
-use native.Mathlib.Omega.{arith}
-use Rattle.rules.specs.Accounts.{tableOf}
-use Rattle.rules.specs.Decisions.{userOf, serviceOf, decideInitial, decideDirect, decideSelf, decideProxy}
-use Rattle.rules.proofs.Checks.{is-accepted}
-use Prim.Native.Nat.{ℕ}
-use Rattle.rules.proofs.Decisions.{proxy-stopped, shown-then}
+use Rattle.definitions.specs.Accounts.{tableOf}
+use Rattle.definitions.specs.Decisions.{serviceOf, decideProxy}
+use Rattle.definitions.proofs.Checks.{is-accepted}
+use Rattle.definitions.proofs.Decisions.{proxy-stopped, shown-then}
 use borrow.Author.Needs.{needs}
 use Rattle.rules.proofs.decision.proxy.Statement.{statement}
 use Rattle.rules.proofs.decision.proxy.Tie as tie

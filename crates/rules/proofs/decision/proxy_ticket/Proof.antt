@@ -1,4 +1,4 @@
-use Rattle.rules.specs.Decisions.{proxyTicket}
+use Rattle.definitions.specs.Decisions.{proxyTicket}
 use borrow.Author.Needs.{needs}
 use Rattle.rules.proofs.decision.proxy_ticket.Statement.{statement}
 use Rattle.rules.proofs.decision.proxy_ticket.Tie as tie

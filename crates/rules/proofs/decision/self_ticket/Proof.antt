@@ -1,4 +1,4 @@
-use Rattle.rules.specs.Decisions.{selfTicket}
+use Rattle.definitions.specs.Decisions.{selfTicket}
 use borrow.Author.Needs.{needs}
 use Rattle.rules.proofs.decision.self_ticket.Statement.{statement}
 use Rattle.rules.proofs.decision.self_ticket.Tie as tie

@@ -1,7 +1,6 @@
-use mathlib.Core.Path.{_≡_, refl, sym, ap, _∙_}
-use denote.Ref.{now}
+use mathlib.Core.Path.{sym, _∙_}
 use borrow.Author.Tests.{not-true, not-false}
-use Rattle.rules.specs.Edits.{editChecks}
+use Rattle.definitions.specs.Edits.{editChecks}
 use borrow.Author.Needs.{needs}
 use Rattle.rules.proofs.edit.check_edit.Statement.{statement}
 use Rattle.rules.proofs.edit.check_edit.Tie as tie

@@ -1,11 +1,9 @@
-use mathlib.Core.Path.{_≡_, sym, ap, _∙_}
-use native.Mathlib.Omega.{arith}
-use lib.ListN.{length}
+use mathlib.Core.Path.{sym, ap, _∙_}
 use denote.Ref.{now}
-use Rattle.rules.specs.Accounts.{tableOf}
-use Rattle.rules.specs.Edits.{editOf, storedBy}
-use Rattle.rules.proofs.Checks.{is-accepted}
-use Rattle.rules.proofs.Edits.{stored-tells, table-edited, stored-words, kept-words}
+use Rattle.definitions.specs.Accounts.{tableOf}
+use Rattle.definitions.specs.Edits.{editOf}
+use Rattle.definitions.proofs.Checks.{is-accepted}
+use Rattle.definitions.proofs.Edits.{stored-tells, table-edited, stored-words, kept-words}
 use borrow.Author.Needs.{needs}
 use Rattle.rules.proofs.edit.edit_account.Statement.{statement}
 use Rattle.rules.proofs.edit.edit_account.Tie as tie

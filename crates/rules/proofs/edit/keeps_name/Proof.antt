@@ -1,7 +1,7 @@
-use mathlib.Core.Path.{_≡_, refl, sym, ap, _∙_}
-use Rattle.rules.specs.Accounts.{tableOf, rowOf}
+use mathlib.Core.Path.{sym, ap, _∙_}
+use Rattle.definitions.specs.Accounts.{tableOf}
 use denote.Ref.{now}
-use Rattle.rules.proofs.Edits.{keeps-known, keeps-new}
+use Rattle.definitions.proofs.Edits.{keeps-known, keeps-new}
 use borrow.Author.Needs.{needs}
 use Rattle.rules.proofs.edit.keeps_name.Statement.{statement}
 use Rattle.rules.proofs.edit.keeps_name.Tie as tie

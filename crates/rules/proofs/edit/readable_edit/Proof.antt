@@ -1,4 +1,3 @@
-use mathlib.Core.Path.{_≡_, refl, sym, _∙_}
 use borrow.Author.Needs.{needs}
 use Rattle.rules.proofs.edit.readable_edit.Statement.{statement}
 use Rattle.rules.proofs.edit.readable_edit.Tie as tie

@@ -1,5 +1,4 @@
-use mathlib.Core.Path.{_≡_, refl, sym, _∙_}
-use Rattle.rules.specs.Accounts.{storeRow}
+use Rattle.definitions.specs.Accounts.{storeRow}
 use borrow.Author.Needs.{needs}
 use Rattle.rules.proofs.edit.store_row.Statement.{statement}
 use Rattle.rules.proofs.edit.store_row.Tie as tie

@@ -7,10 +7,10 @@ use lib.ListN.{length, getD}
 use lib.Dec.{eqb}
 use denote.Ref.{now}
 use borrow.Author.Tests.{not-true, not-false}
-use Rattle.rules.specs.Accounts.{byteAt, nameAt}
-use Rattle.rules.specs.Names.{folded, agree}
-use Rattle.rules.proofs.Accounts.{name-byte}
-use Rattle.rules.proofs.Names.{agree-stop, agree-back}
+use Rattle.definitions.specs.Accounts.{byteAt, nameAt}
+use Rattle.definitions.specs.Names.{folded, agree}
+use Rattle.definitions.proofs.Accounts.{name-byte}
+use Rattle.definitions.proofs.Names.{agree-stop, agree-back}
 use borrow.Author.Needs.{needs}
 use Rattle.rules.proofs.name.agrees.Statement.{statement}
 use Rattle.rules.proofs.name.agrees.Tie as tie

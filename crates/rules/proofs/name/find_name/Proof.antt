@@ -2,9 +2,9 @@ use mathlib.Core.Path.{_≡_, refl, sym, _∙_}
 use Prim.Native.Nat.{_≤_, _-_}
 use native.Mathlib.Omega.{arith}
 use denote.Ref.{now}
-use Rattle.rules.specs.Accounts.{rowsFrom, tableOf}
-use Rattle.rules.specs.Names.{numberFrom, findName}
-use Rattle.rules.proofs.Names.{find-here, find-on, find-end}
+use Rattle.definitions.specs.Accounts.{rowsFrom, tableOf}
+use Rattle.definitions.specs.Names.{numberFrom, findName}
+use Rattle.definitions.proofs.Names.{find-here, find-on, find-end}
 use borrow.Author.Needs.{needs}
 use Rattle.rules.proofs.name.find_name.Statement.{statement}
 use Rattle.rules.proofs.name.find_name.Tie as tie

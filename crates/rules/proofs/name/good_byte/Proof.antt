@@ -1,4 +1,3 @@
-use Rattle.rules.specs.Names.{goodByte}
 use borrow.Author.Needs.{needs}
 use Rattle.rules.proofs.name.good_byte.Statement.{statement}
 use Rattle.rules.proofs.name.good_byte.Tie as tie

@@ -5,8 +5,8 @@ use native.Mathlib.Omega.{arith}
 use lib.ListN.{length}
 use denote.Ref.{now}
 use borrow.Author.Tests.{not-true, not-false}
-use Rattle.rules.specs.Names.{goodBytes, goodName}
-use Rattle.rules.proofs.Names.{good-more, good-stop, good-length, good-found, good-all}
+use Rattle.definitions.specs.Names.{goodBytes}
+use Rattle.definitions.proofs.Names.{good-more, good-stop, good-length, good-found, good-all}
 use borrow.Author.Needs.{needs}
 use Rattle.rules.proofs.name.good_name.Statement.{statement}
 use Rattle.rules.proofs.name.good_name.Tie as tie

@@ -1,11 +1,10 @@
-use mathlib.Core.Path.{_≡_, refl, sym, _∙_}
+use mathlib.Core.Path.{sym, _∙_}
 use denote.Ref.{now}
-use native.Mathlib.Omega.{arith}
 use borrow.Author.Tests.{not-true, not-false, leb-true}
 use lib.ListN.{length}
 use lib.Dec.{leb}
-use Rattle.record.proofs.Bools.{and-right}
-use Rattle.rules.proofs.Names.{named-above, named-length, named-unset, named-agree}
+use Rattle.definitions.proofs.Bools.{and-right}
+use Rattle.definitions.proofs.Names.{named-above, named-length, named-unset, named-agree}
 use borrow.Author.Needs.{needs}
 use Rattle.rules.proofs.name.has_name.Statement.{statement}
 use Rattle.rules.proofs.name.has_name.Tie as tie

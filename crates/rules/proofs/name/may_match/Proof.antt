@@ -1,10 +1,10 @@
-use mathlib.Core.Path.{_≡_, sym, ap, _∙_}
+use mathlib.Core.Path.{sym, ap, _∙_}
 use Prim.Native.Nat.{_+_, _*_}
 use native.Mathlib.Omega.{arith}
-use borrow.Author.Tests.{not-true, not-false}
+use borrow.Author.Tests.{not-true}
 use denote.Ref.{now}
-use Rattle.rules.specs.declared.name.Trace.{Trace}
-use Rattle.rules.proofs.Names.{named-length, named-trace}
+use Rattle.definitions.specs.declared.search.Trace.{Trace}
+use Rattle.definitions.proofs.Names.{named-length, named-trace}
 use borrow.Author.Needs.{needs}
 use Rattle.rules.proofs.name.may_match.Statement.{statement}
 use Rattle.rules.proofs.name.may_match.Tie as tie

@@ -2,9 +2,9 @@ use mathlib.Core.Path.{_≡_, refl, sym, _∙_}
 use Prim.Native.Nat.{_≤_, _-_}
 use native.Mathlib.Omega.{arith}
 use denote.Ref.{now}
-use Rattle.rules.specs.Accounts.{rowsFrom, tableOf}
-use Rattle.rules.specs.Names.{taken}
-use Rattle.rules.proofs.Names.{taken-here, taken-on, taken-end}
+use Rattle.definitions.specs.Accounts.{rowsFrom, tableOf}
+use Rattle.definitions.specs.Names.{taken}
+use Rattle.definitions.proofs.Names.{taken-here, taken-on, taken-end}
 use borrow.Author.Needs.{needs}
 use Rattle.rules.proofs.name.name_taken.Statement.{statement}
 use Rattle.rules.proofs.name.name_taken.Tie as tie

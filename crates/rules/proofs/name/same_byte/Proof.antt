@@ -1,8 +1,7 @@
-use mathlib.Core.Path.{_≡_, sym, ap, ap₂, _∙_}
-use Prim.Native.Nat.{ℕ}
+use mathlib.Core.Path.{sym, ap, ap₂}
 use lib.Dec.{eqb}
 use borrow.Author.Tests.{eq-eqb}
-use Rattle.rules.specs.Names.{folded}
+use Rattle.definitions.specs.Names.{folded}
 use borrow.Author.Needs.{needs}
 use Rattle.rules.proofs.name.same_byte.Statement.{statement}
 use Rattle.rules.proofs.name.same_byte.Tie as tie

@@ -1,9 +1,9 @@
 use native.Mathlib.Omega.{arith}
 use lib.Dec.{leb}
 use borrow.Author.Tests.{leb-true}
-use Rattle.record.proofs.Bools.{and-right}
+use Rattle.definitions.proofs.Bools.{and-right}
 use mathlib.Core.Path.{sym, _∙_}
-use Rattle.rules.specs.Names.{lower}
+use Rattle.definitions.specs.Names.{lower}
 use borrow.Author.Needs.{needs}
 use Rattle.rules.proofs.name.to_lower.Statement.{statement}
 use Rattle.rules.proofs.name.to_lower.Tie as tie

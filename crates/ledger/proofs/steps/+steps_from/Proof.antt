@@ -1,0 +1,93 @@
+-- `ledger::steps::steps_from` meets its contract: the ticket's number falls at each step. Assumes nothing.
+use borrow.Author.Needs.{needs}
+use native.Mathlib.Omega.{arith}
+use mathlib.Core.Path.{sym, ap, _∙_}
+use denote.Ref.{now}
+use borrow.Author.Tests.{not-true, not-false}
+use Rattle.definitions.specs.Words.{ticketsOf}
+use Rattle.definitions.specs.Descent.{backOf, descent, descended, oneMore}
+use Rattle.definitions.proofs.Back.{not-there, is-there, back-stop, back-to, steps-none, steps-here, steps-on, steps-stuck, more-one, one-more-most}
+use Prim.Native.Nat.{ℕ, _<_}
+use borrow.Fn.Kinds.{In}
+use borrow.Fn.PlainCycle.{Measures, is, falls, and}
+use Rattle.ledger.proofs.steps.steps_from.Reads as steps-from
+use Rattle.ledger.proofs.steps.steps_from.Kinds as steps-from-kinds
+use Rattle.ledger.proofs.steps.+steps_from.Lts-steps_from as steps-from-lts
+use Rattle.ledger.proofs.steps.back_of.Reads as back-of-reads
+use Rattle.ledger.proofs.steps.one_more.Reads as one-more-reads
+use Rattle.ledger.proofs.find_ticket.Reads as find-ticket-reads
+use Rattle.ledger.proofs.steps.+steps_from.{statement}
+use Rattle.ledger.proofs.steps.+steps_from.Tie.{close}
+
+abbrev μ-steps-from : Measures 1 steps-from-kinds.ps ℕ
+μ-steps-from κs a = a .1 .0
+
+abbrev steps-from-at : ℕ → In 1 steps-from-kinds.ps
+steps-from-at t =
+    and 1 steps-from-kinds.ps (is 1 steps-from-kinds.ps μ-steps-from t) steps-from.Pre
+
+abbrev steps-from-below : ℕ → In 1 steps-from-kinds.ps
+steps-from-below t =
+    and 1 steps-from-kinds.ps (falls 1 steps-from-kinds.ps _<_ μ-steps-from t) steps-from.Pre
+
+-- what each function that is called asks and tells; the descent itself is asked of a lower number
+abbrev told : ℕ → steps-from-lts.Claims
+told t = (
+  find-ticket-reads.Asked,
+  find-ticket-reads.Learnt,
+  back-of-reads.Asked,
+  back-of-reads.Learnt,
+  steps-from-below t,
+  steps-from.Post,
+  one-more-reads.Asked,
+  one-more-reads.Learnt,
+)
+
+returns : (t : ℕ) → steps-from-lts.Need-returns (told t) (steps-from-at t) steps-from.Post
+returns t c =
+    let a = c .before .before .before .args in
+    let h = c .before .before .find-ticket in
+    (sym (ap descended (steps-none (ticketsOf (now (a .words))) (a .number) (not-there (ticketsOf (now (a .words))) (a .number) (h .result) (h .ensures) (not-true (h .result .found) (c .if1 .taken))))), search needs)
+
+returns-2 : (t : ℕ) → steps-from-lts.Need-returns-2 (told t) (steps-from-at t) steps-from.Post
+returns-2 t c =
+    let a = c .before .before .before .before .before .before .before .args in
+    let l = ticketsOf (now (a .words)) in
+    let h = c .before .before .before .before .before .before .find-ticket in
+    let f = is-there l (a .number) (h .result) (h .ensures) (not-false (h .result .found) (c .before .before .before .before .if1 .left)) in
+    (sym (ap descended (steps-here l (a .number) (h .result .ticket) f (back-stop (backOf (h .result .ticket .origin)) (sym (c .enum-told .given .1) ∙ c .before .before .back-of .ensures)))), search needs)
+
+steps-from-requires : (t : ℕ) → steps-from-lts.Need-steps-from-requires (told t) (steps-from-at t) steps-from.Post
+steps-from-requires t c κs = (omega (arith, c .before .before .before .before .before .before .before .before .before .pre .0, c .if2 .taken), tt)
+
+one-more-requires : (t : ℕ) → steps-from-lts.Need-one-more-requires (told t) (steps-from-at t) steps-from.Post
+one-more-requires t c κs = omega (arith, c .steps-from .ensures .1, c .before .if2 .taken, c .before .before .before .before .before .before .before .before .before .before .fits .number)
+
+returns-3 : (t : ℕ) → steps-from-lts.Need-returns-3 (told t) (steps-from-at t) steps-from.Post
+returns-3 t c =
+    let a = c .before .before .before .before .before .before .before .before .before .before .before .args in
+    let l = ticketsOf (now (a .words)) in
+    let h = c .before .before .before .before .before .before .before .before .before .before .find-ticket in
+    let f = is-there l (a .number) (h .result) (h .ensures) (not-false (h .result .found) (c .before .before .before .before .before .before .before .before .if1 .left)) in
+    let n = c .before .before .before .before .back .given .0 .0 in
+    let g = back-to (backOf (h .result .ticket .origin)) n (sym (c .before .before .before .before .back .given .1) ∙ c .before .before .before .before .before .before .back-of .ensures) in (
+      c .one-more .ensures ∙ ap oneMore (c .before .steps-from .ensures .0) ∙ more-one (descent l n)
+          ∙ sym (ap descended (steps-on l (a .number) (h .result .ticket) n f g (c .before .before .if2 .taken))),
+      rw (c .one-more .ensures) (omega (arith, one-more-most (c .before .steps-from .result), c .before .steps-from .ensures .1, c .before .before .if2 .taken)),
+    )
+
+returns-4 : (t : ℕ) → steps-from-lts.Need-returns-4 (told t) (steps-from-at t) steps-from.Post
+returns-4 t c =
+    let a = c .before .before .before .before .before .before .before .before .before .args in
+    let l = ticketsOf (now (a .words)) in
+    let h = c .before .before .before .before .before .before .before .before .find-ticket in
+    let f = is-there l (a .number) (h .result) (h .ensures) (not-false (h .result .found) (c .before .before .before .before .before .before .if1 .left)) in
+    let n = c .before .before .back .given .0 .0 in
+    let g = back-to (backOf (h .result .ticket .origin)) n (sym (c .before .before .back .given .1) ∙ c .before .before .before .before .back-of .ensures) in
+    (sym (ap descended (steps-stuck l (a .number) (h .result .ticket) n f g (c .if2 .left))), search needs)
+
+pub +steps-from-spec : {M : Type 1} → statement M
++steps-from-spec =
+    close μ-steps-from
+    (λ t. steps-from-lts.spec (told t) (steps-from-at t) steps-from.Post (λ c κs. search needs) (returns t) (λ c κs. search needs)
+    (λ c. search needs) (λ c. search needs) (returns-2 t) (steps-from-requires t) (one-more-requires t) (returns-3 t) (returns-4 t))
