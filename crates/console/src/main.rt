@@ -15,6 +15,7 @@
 // Words are parted by one space. Numbers are decimal, or hexadecimal after 0x; bytes are hexadecimal, `-` for none; a name is as it is.
 // A line that is no call changes nothing, and is answered by `? LINE: what is wrong`.
 use definitions::Descended;
+use definitions::LONGEST_RECORD;
 use definitions::Ticket;
 use definitions::Written;
 use ledger::LedgerWords;
@@ -480,7 +481,7 @@ fn decode(space: &mut Space, word: &[u8]) -> Decoded {
 
 // The ticket of a number, or one that the service does not hold.
 fn ticket_of(ledger: &LedgerWords, number: u16) -> Ticket {
-    let held = ledger::find_ticket(ledger, number);
+    let held = ledger::first_held(ledger, number);
     if held.found {
         held.ticket
     } else {
@@ -505,7 +506,7 @@ fn record_length(ticket: Ticket, output: &mut [u8]) -> usize {
 
 // Puts a ticket's record behind its length byte.
 fn put_ticket(space: &mut Space, at: usize, ticket: Ticket) -> usize {
-    let mut output = [0u8; 31];
+    let mut output = [0u8; LONGEST_RECORD];
     let length = record_length(ticket, &mut output);
     put_counted(space, at, first(&output, length))
 }
@@ -534,14 +535,14 @@ fn put_head(
     kind: u8,
     needed: u16,
     options: Number,
-    pac: Number,
+    pac_options: Number,
     till: Number,
 ) -> usize {
-    let map = needed | bit_if(options, 2) | bit_if(pac, 4) | bit_if(till, 8);
+    let map = needed | bit_if(options, 2) | bit_if(pac_options, 4) | bit_if(till, 8);
     let kind_at = put_16(space, 0, map);
     let options_at = put(space, kind_at, kind);
     let pac_at = put_if_given(space, options_at, options);
-    let till_at = put_if_given(space, pac_at, pac);
+    let till_at = put_if_given(space, pac_at, pac_options);
     put_if_given(space, till_at, till)
 }
 
@@ -589,7 +590,7 @@ fn call_edit(accounts: &mut AccountWords, line: &[u8]) -> Wrong {
 // Prints the error number, and from the output the record of a ticket that was granted.
 fn print_decision(error: u32, ticket: Ticket, output: &[u8]) {
     if error == 0 {
-        let mut copy = [0u8; 31];
+        let mut copy = [0u8; LONGEST_RECORD];
         let length = record_length(ticket, &mut copy);
         print_bytes(0, first(output, length));
     } else {
@@ -725,13 +726,15 @@ fn call_proxy(accounts: &AccountWords, ledger: &mut LedgerWords, line: &[u8]) ->
     let tgt = number_16(line, 2);
     let evidence = number_16(line, 3);
     let options = hop_options(line);
-    let pac = optional_32(line, 6);
+    let pac_options = optional_32(line, 6);
     let till = optional_32(line, 7);
-    if !all_good(clock, tgt, evidence, options) || !all_good(pac, till, not_given(), not_given()) {
+    if !all_good(clock, tgt, evidence, options)
+        || !all_good(pac_options, till, not_given(), not_given())
+    {
         return Wrong::Number;
     }
     let mut space: Space = [0u8; 4096];
-    let tgt_at = put_head(&mut space, 4, 0x00B3, options, pac, till);
+    let tgt_at = put_head(&mut space, 4, 0x00B3, options, pac_options, till);
     let evidence_at = put_held(&mut space, tgt_at, ledger, tgt);
     let name_at = put_held(&mut space, evidence_at, ledger, evidence);
     send_named(accounts, ledger, &mut space, name_at, word(line, 4), clock)
@@ -766,9 +769,9 @@ fn call_total(ledger: &LedgerWords, line: &[u8]) -> Wrong {
 
 // Prints the record of the ticket at a place.
 fn print_ticket(ledger: &LedgerWords, place: usize) {
-    let held = ledger::ticket_at(ledger, place);
+    let held = ledger::held_at(ledger, place);
     let ticket = held.ticket;
-    let mut output = [0u8; 31];
+    let mut output = [0u8; LONGEST_RECORD];
     let length = record_length(ticket, &mut output);
     print_record(first(&output, length));
 }
@@ -798,7 +801,7 @@ enum Command {
     Ledger,
     Initial,
     Direct,
-    SelfIssued,
+    S4U2self,
     Proxy,
     Unknown,
 }
@@ -834,7 +837,7 @@ fn command_of(command: &[u8]) -> Command {
         return Command::Direct;
     }
     if same(command, b"self") {
-        return Command::SelfIssued;
+        return Command::S4U2self;
     }
     if same(command, b"proxy") {
         return Command::Proxy;
@@ -852,7 +855,7 @@ fn call(accounts: &mut AccountWords, ledger: &mut LedgerWords, line: &[u8]) -> W
         Command::Ledger => call_ledger(ledger, line),
         Command::Initial => call_initial(accounts, ledger, line),
         Command::Direct => call_with_tgt(accounts, ledger, line, 2, 0x0091),
-        Command::SelfIssued => call_with_tgt(accounts, ledger, line, 3, 0x0051),
+        Command::S4U2self => call_with_tgt(accounts, ledger, line, 3, 0x0051),
         Command::Proxy => call_proxy(accounts, ledger, line),
         Command::Unknown => Wrong::Command,
     }

@@ -1,44 +1,43 @@
-// The calls: a fresh service, an edit, and a request (document 01, "Decisions" and "The plain book").
-use crate::LedgerWords;
-use crate::count_held;
-use crate::fresh_ledger;
-use crate::search::look_up;
-use crate::store_ticket;
+// The calls: a fresh service, an edit, and a request (R6.1, R7.2, R7.3).
+use crate::presented::Presented;
+use crate::search::presented_for;
+use crate::storing::fresh_ledger;
+use crate::storing::store_ticket;
+use crate::words::LedgerWords;
+use crate::words::count_held;
 use definitions::Answer;
 use definitions::Decision;
 use definitions::Error;
-use definitions::Found;
 use definitions::Held;
 use definitions::Kind;
+use definitions::LONGEST_RECORD;
 use definitions::Moment;
 use definitions::Request;
 use definitions::RequestReading;
 use definitions::Ticket;
 use definitions::Written;
-use record::is_accepted;
-use record::read_request;
-use record::write_ticket;
 use rules::AccountWords;
 use rules::decide;
 use rules::edit_account;
 use rules::fresh_accounts;
+use rules::is_accepted;
+use rules::read_request;
 use rules::refuse;
+use rules::write_ticket;
 ghost use mathlib.Core.Path.{_≡_};
 ghost use mathlib.Core.List.{List, []};
 ghost use Prim.Native.Nat.{ℕ};
-ghost use lib.ListN.{replicate};
 ghost use Rattle.definitions.specs.TicketRecords.{blankTicket};
-ghost use Rattle.definitions.specs.Accounts.{tableOf};
+ghost use Rattle.definitions.specs.AccountWords.{tableOf};
 ghost use Rattle.definitions.specs.Edits.{editOf};
-ghost use Rattle.definitions.specs.Words.{ticketsOf, noTickets};
+ghost use Rattle.definitions.specs.LedgerWords.{ticketsOf};
 ghost use Rattle.definitions.specs.Answers.{decideRequest};
-ghost use Rattle.definitions.specs.Promises.{Edited, Requested};
+ghost use Rattle.definitions.specs.Promises.{freshService, Edited, Requested};
 ghost use Rattle.definitions.specs.Demand.{Demand3};
 
-// A fresh service, without accounts or tickets.
+// A fresh service, with no account set and no ticket held.
 pub fn fresh(accounts: &mut AccountWords, ledger: &mut LedgerWords)
-    ensures accounts { λ _. ⌜ now (accounts .exit) ≡ replicate 384 0 ⌝ }
-    ensures ledger { λ _. ⌜ now (ledger .exit) ≡ noTickets ⌝ }
+    ensures { λ _. ⌜ record { accounts = now (accounts .exit); ledger = now (ledger .exit) } ≡ freshService ⌝ }
 {
     fresh_accounts(accounts);
     fresh_ledger(ledger);
@@ -74,23 +73,23 @@ fn decide_request(
     if !is_accepted(answer) {
         return refuse(answer);
     }
-    if room < 31 {
+    if room < LONGEST_RECORD {
         return refuse(Answer::Refused(Error::KRB_ERR_RESPONSE_TOO_BIG));
     }
-    let q = reading.request;
-    let tgt = q.tgt;
-    let evidence = q.evidence;
-    let kind = q.kind;
-    let found = look_up(ledger, kind, tgt.number, evidence.number);
-    let held = found.held;
-    let shown = found.shown;
+    let request = reading.request;
+    let tgt = request.tgt;
+    let evidence = request.evidence;
+    let kind = request.kind;
+    let held = presented_for(ledger, kind, tgt.number, evidence.number);
+    let tgt_held = held.tgt;
+    let evidence_held = held.evidence;
     let count = count_held(ledger);
     decide(
         accounts,
         bytes,
-        q,
-        held,
-        shown,
+        request,
+        tgt_held,
+        evidence_held,
         Moment { clock, count, room },
     )
 }
@@ -103,7 +102,7 @@ pub fn request(
     clock: u32,
     output: &mut [u8],
 ) -> Decision
-    ensures { λ r. ⌜ Requested (record { accounts = now (accounts .entry); ledger = now (ledger .entry) }) (now (bytes .entry)) clock (now (output .entry)) (record { answer = r .answer; ticket = r .ticket; output = now (output .exit) }) (record { accounts = now (accounts .entry); ledger = now (ledger .exit) }) ⌝ }
+    ensures { λ r. ⌜ Requested (record { accounts = now (accounts .entry); ledger = now (ledger .entry) }) (now (bytes .entry)) clock (now (output .entry)) (record { answer = r .answer; ticket = r .ticket; output = now (output .exit) }) (record { accounts = now (accounts .exit); ledger = now (ledger .exit) }) ⌝ }
 {
     let decision = decide_request(accounts, ledger, bytes, clock, output.len());
     let answer = decision.answer;
@@ -115,7 +114,7 @@ pub fn request(
     decision
 }
 
-// Demand 3 holds of every list of calls that keep these promises.
+// Demand 3 holds of every list of calls that keep these promises (R10.3).
 pub fn demand_3()
     ensures { λ _. ⌜ Demand3 ⌝ }
 {}

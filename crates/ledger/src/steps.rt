@@ -1,25 +1,32 @@
-// The descent call: the steps from a ticket to its initial one (document 01, "Lawful descent" and "Error numbers").
-use crate::LedgerWords;
-use crate::find_ticket;
-use definitions::Back;
+// The descent call: the steps from a ticket to its initial one (R7.4, R9.1).
+use crate::search::first_held;
+use crate::words::LedgerWords;
 use definitions::Descended;
 use definitions::Error;
 use definitions::Held;
 use definitions::Origin;
+use definitions::TWO_16;
 use definitions::Ticket;
 ghost use mathlib.Core.Path.{_≡_};
 ghost use Prim.Native.Nat.{_≤_};
-ghost use Rattle.definitions.specs.Words.{ticketsOf};
-ghost use Rattle.definitions.specs.Descent.{backOf, descent, backTo, stepsIn, oneMore, descended};
+ghost use Rattle.definitions.specs.LedgerWords.{ticketsOf};
+ghost use Rattle.definitions.specs.Descent.{backOf, descent, descended};
+ghost use Rattle.ledger.specs.BackSteps.{backTo, stepsIn, oneMore};
 
-// Back from a delegated ticket goes to its evidence, from direct or self to its TGT.
+// Where a ticket's back number leads.
+pub enum Back {
+    Stop,
+    To(u16),
+}
+
+// The number that one step back leads to: the evidence's of a delegated ticket, the TGT's of a direct or a self ticket.
 fn back_of(origin: Origin) -> Back
     ensures { λ r. ⌜ r ≡ backTo (backOf origin) ⌝ }
 {
     match origin {
         Origin::Initial => Back::Stop,
         Origin::Direct(tgt) => Back::To(tgt),
-        Origin::SelfIssued(tgt) => Back::To(tgt),
+        Origin::S4U2self(tgt) => Back::To(tgt),
         Origin::Delegated(_, evidence) => Back::To(evidence),
     }
 }
@@ -35,12 +42,12 @@ fn one_more(d: Descended) -> Descended
     }
 }
 
-// The steps from a ticket to the initial one. Each step's number falls.
+// The steps from a ticket to the initial one. Each step's number is smaller, so that the recursion ends.
 fn steps_from(words: &LedgerWords, number: u16) -> Descended
     ensures exact { λ r. ⌜ r ≡ descended (descent (ticketsOf (now (words .entry))) number) ⌝ }
     ensures bounded { λ r. ⌜ stepsIn r ≤ number ⌝ }
 {
-    let held = find_ticket(words, number);
+    let held = first_held(words, number);
     if !held.found {
         return Descended::Refused(Error::KRB_AP_ERR_MODIFIED);
     }
@@ -61,7 +68,7 @@ fn steps_from(words: &LedgerWords, number: u16) -> Descended
 pub fn descent(words: &LedgerWords, number: u32) -> Descended
     ensures { λ r. ⌜ r ≡ descended (descent (ticketsOf (now (words .entry))) number) ⌝ }
 {
-    if number < 65536 {
+    if (number as u64) < TWO_16 {
         steps_from(words, number as u16)
     } else {
         Descended::Refused(Error::KRB_AP_ERR_MODIFIED)

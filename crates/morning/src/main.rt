@@ -1,7 +1,8 @@
-// The morning of document 01, "Hops and a morning": three accounts, and the requests W1 to W4 made of the records that were answered.
+// The morning of R11.3: three accounts, and the requests W1 to W4, made of the records that were answered.
 // Prints a line for each request: its kind, the error number (0 granted), and the record in hexadecimal, or `-`.
 use definitions::Answer;
 use definitions::Decision;
+use definitions::LONGEST_RECORD;
 use definitions::Ticket;
 use definitions::Written;
 use ledger::LedgerWords;
@@ -55,7 +56,7 @@ fn print_line(kind: u8, error: u32, record: &[u8]) {
     print(b"\n");
 }
 
-// ---- Requests put together in a space of 128 bytes, more than the longest of them needs (document 01, "Requests"). A byte that would go
+// ---- Requests put together in a space of 128 bytes, more than the longest of them needs (R4.1). A byte that would go
 // past the end is dropped, so every position can be passed on as it comes.
 
 // As many of the first bytes, or all where there are fewer.
@@ -131,7 +132,7 @@ fn put_proxy(space: &mut [u8; 128], tgt: &[u8], evidence: &[u8], service: &[u8])
 
 // The length of a ticket's record; a ticket that was granted has one.
 fn record_length(ticket: Ticket) -> usize {
-    let mut output = [0u8; 31];
+    let mut output = [0u8; LONGEST_RECORD];
     let written = record::write_ticket(ticket, &mut output);
     match written {
         Written::Length(length) => length,
@@ -140,7 +141,7 @@ fn record_length(ticket: Ticket) -> usize {
 }
 
 // The record of this length at an output's start.
-fn record_in(output: &[u8; 31], length: usize) -> &[u8] {
+fn record_in(output: &[u8; LONGEST_RECORD], length: usize) -> &[u8] {
     first(output, length)
 }
 
@@ -200,7 +201,7 @@ fn ask_proxy(
 ) {
     let mut space = [0u8; 128];
     let end = put_proxy(&mut space, tgt, evidence, b"store");
-    let mut output = [0u8; 31];
+    let mut output = [0u8; LONGEST_RECORD];
     ask(
         accounts,
         tickets,
@@ -212,7 +213,7 @@ fn ask_proxy(
 }
 
 fn ask_with_tgt(accounts: &AccountWords, tickets: &mut LedgerWords, tgt: &[u8]) {
-    let mut output = [0u8; 31];
+    let mut output = [0u8; LONGEST_RECORD];
     let length = ask_self(accounts, tickets, tgt, &mut output);
     let evidence = record_in(&output, length);
     ask_proxy(accounts, tickets, tgt, evidence, 1020);
@@ -220,7 +221,7 @@ fn ask_with_tgt(accounts: &AccountWords, tickets: &mut LedgerWords, tgt: &[u8]) 
 }
 
 fn ask_all(accounts: &AccountWords, tickets: &mut LedgerWords) {
-    let mut output = [0u8; 31];
+    let mut output = [0u8; LONGEST_RECORD];
     let length = ask_initial(accounts, tickets, &mut output);
     ask_with_tgt(accounts, tickets, record_in(&output, length));
 }

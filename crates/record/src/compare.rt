@@ -1,4 +1,4 @@
-// Whether two tickets are equal in every field (document 01, "Decisions").
+// Whether two tickets are equal in every field (R5.1).
 use crate::both;
 use crate::ticket::evidence_of;
 use crate::ticket::origin_map;

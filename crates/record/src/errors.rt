@@ -1,8 +1,8 @@
-// The numbers of refusals and answers (document 01, "Error numbers").
+// The numbers of refusals and answers (R6.8).
 use definitions::Answer;
 use definitions::Error;
 ghost use mathlib.Core.Path.{_≡_};
-ghost use Rattle.definitions.specs.Errors.{isAccepted, numberOf, answerNumber};
+ghost use Rattle.definitions.specs.Errors.{isAccepted, errorNumber, answerNumber};
 
 // Whether an answer is no refusal.
 pub fn is_accepted(answer: Answer) -> bool
@@ -16,7 +16,7 @@ pub fn is_accepted(answer: Answer) -> bool
 
 // The number of a refusal.
 pub fn error_number(error: Error) -> u32
-    ensures { λ r. ⌜ r ≡ numberOf error ⌝ }
+    ensures { λ r. ⌜ r ≡ errorNumber error ⌝ }
 {
     match error {
         Error::KDC_ERR_C_PRINCIPAL_UNKNOWN => 6,

@@ -1,17 +1,18 @@
-// Layer 1, the record layer: ticket records and requests (document 01, "Ticket records" and "Requests").
+// Layer 1, the record layer: ticket records and requests (R3, R4).
 // This file holds what both records are made of: a 16-bit map, and the fields of its bits, taken one after the other at a cursor.
 mod compare;
 mod errors;
+mod field;
 mod reader;
 mod request;
 mod ticket;
 mod writer;
 
 pub use compare::same_ticket;
-use definitions::Field;
 pub use errors::answer_number;
 pub use errors::error_number;
 pub use errors::is_accepted;
+use field::Field;
 pub use reader::read_ticket;
 pub use request::read_request;
 pub use ticket::blank_ticket;
@@ -23,7 +24,7 @@ ghost use Prim.Native.Nat.{_+_, _^_, _≤_, _<_};
 ghost use lib.ListN.{length, getD};
 ghost use lib.Dec.{leb};
 ghost use Rattle.definitions.specs.Fields.{hasBit, numberAt, mapOf};
-ghost use Rattle.definitions.specs.Cursor.{TakenAt};
+ghost use Rattle.record.specs.Cursor.{TakenAt};
 
 // Whether both hold.
 pub fn both(a: bool, b: bool) -> bool
@@ -50,7 +51,7 @@ pub fn byte(bytes: &[u8], at: usize) -> u8
 pub fn has_bit(word: u64, k: usize) -> bool
     ensures { λ r. ⌜ r ≡ (leb k 63 && hasBit word k) ⌝ }
 {
-    if k < 64 { (word >> k) % 2 == 1 } else { false }
+    if k < 64 { (word >> k) & 1 == 1 } else { false }
 }
 
 // Whether a map has a bit.

@@ -1,15 +1,17 @@
-// The ticket reader: any bytes to a ticket, or 60 (document 01, "Ticket records").
+// The ticket reader: any bytes to a ticket, or 60 (R3.5).
 use crate::both;
 use crate::byte_field;
+use crate::field::Field;
 use crate::map_of;
 use crate::present;
 use crate::take_field;
 use crate::ticket::blank_ticket;
 use definitions::Answer;
 use definitions::Error;
-use definitions::Field;
 use definitions::Origin;
+use definitions::Principal;
 use definitions::Reading;
+use definitions::TRAIL_LIMIT;
 use definitions::Ticket;
 use definitions::Window;
 ghost use mathlib.Core.Path.{_≡_};
@@ -17,15 +19,16 @@ ghost use mathlib.Core.Bool.{true, cond};
 ghost use mathlib.Core.List.{List};
 ghost use Prim.Native.Nat.{ℕ, _+_, _≤_, _<_};
 ghost use lib.ListN.{length};
+ghost use Rattle.definitions.specs.Limits.{trailLimit};
 ghost use Rattle.definitions.specs.Fields.{hasBit, offsetOf};
-ghost use Rattle.definitions.specs.Cursor.{Taken};
+ghost use Rattle.record.specs.Cursor.{Taken};
 ghost use Rattle.definitions.specs.TicketRecords.{ticketLayout, knownMap, hopsOf, hopsFit, originAs, trailOf, readableAs, ticketAs, accepted, refused, readTicket};
 
-// The bytes of the field of each map bit. Of the trail, bit 8, it is the count's; bits 9 and 10 have no bytes.
+// The bytes of the field of each map bit (R3.2). Of the trail, bit 8, it is the count's; bits 9 and 10 have no bytes.
 pub const WIDTHS: [usize; 9] = [2, 4, 1, 1, 4, 4, 2, 2, 1];
 
 // The reading of a ticket.
-pub fn accepted(ticket: Ticket) -> Reading
+pub(crate) fn accepted(ticket: Ticket) -> Reading
     ensures { λ r. ⌜ r ≡ accepted ticket ⌝ }
 {
     Reading {
@@ -44,8 +47,9 @@ fn refused() -> Reading
     }
 }
 
-// The bytes of a record up to its trail, by its map; 0 where the map is no ticket's.
-pub fn fixed_length(map: u16) -> usize
+// The bytes of a record up to its trail, by its map; 0 where the map is no ticket's. They are sums of widths of the table above, which the proof
+// computes.
+pub(crate) fn fixed_length(map: u16) -> usize
     ensures exact { λ r. ⌜ ((s : List ℕ) → r ≡ cond (knownMap map) (offsetOf ticketLayout s map 8) 0) ⌝ }
     ensures bounded { λ r. ⌜ r ≤ 22 ⌝ }
 {
@@ -58,18 +62,18 @@ pub fn fixed_length(map: u16) -> usize
 }
 
 // Whether a trail has 1 to 8 accounts where the map has one, and else none.
-pub fn hops_fit(map: u16, hops: u8) -> bool
+pub(crate) fn hops_fit(map: u16, hops: u8) -> bool
     ensures { λ r. ⌜ r ≡ hopsFit map hops ⌝ }
 {
     if present(map, 8) {
-        both(1 <= hops, hops <= 8)
+        both(1 <= hops, hops as usize <= TRAIL_LIMIT)
     } else {
         hops == 0
     }
 }
 
 // The bytes of the trail and its count.
-pub fn trail_length(map: u16, hops: u8) -> usize
+pub(crate) fn trail_length(map: u16, hops: u8) -> usize
     ensures exact { λ r. ⌜ r ≡ cond (hasBit map 8) (1 + hops) 0 ⌝ }
     ensures bounded { λ r. ⌜ r ≤ 256 ⌝ }
 {
@@ -93,7 +97,7 @@ fn origin_as(map: u16, tgt: u16, evidence: u16) -> Origin
     ensures { λ r. ⌜ r ≡ originAs map tgt evidence ⌝ }
 {
     if present(map, 10) {
-        Origin::SelfIssued(tgt)
+        Origin::S4U2self(tgt)
     } else if present(map, 7) {
         Origin::Delegated(tgt, evidence)
     } else if present(map, 6) {
@@ -104,12 +108,12 @@ fn origin_as(map: u16, tgt: u16, evidence: u16) -> Origin
 }
 
 // The trail as a ticket holds it: its accounts, then zeros.
-fn trail_of(bytes: &[u8], at: usize, hops: u8) -> [u8; 8]
-    requires { ⌜ (hops ≤ 8) × ((i : ℕ) → i < hops → at + i < length (now bytes)) ⌝ }
+fn trail_of(bytes: &[u8], at: usize, hops: u8) -> [Principal; TRAIL_LIMIT]
+    requires { ⌜ (hops ≤ trailLimit) × ((i : ℕ) → i < hops → at + i < length (now bytes)) ⌝ }
     ensures { λ r. ⌜ r ≡ trailOf (now (bytes .entry)) at hops ⌝ }
 {
     let n = hops as usize;
-    let mut trail = [0u8; 8];
+    let mut trail = [0u8; TRAIL_LIMIT];
     for i in 0..n {
         trail[i] = bytes[at + i];
     }
@@ -117,7 +121,7 @@ fn trail_of(bytes: &[u8], at: usize, hops: u8) -> [u8; 8]
 }
 
 // The ticket of a record whose length is right, front to back.
-fn decode(bytes: &[u8], map: u16, hops: u8) -> Ticket
+fn ticket_as(bytes: &[u8], map: u16, hops: u8) -> Ticket
     requires { ⌜ (readableAs (now bytes) map ≡ true) × (hops ≡ hopsOf (now bytes) map) ⌝ }
     ensures { λ r. ⌜ r ≡ ticketAs (now (bytes .entry)) map ⌝ }
 {
@@ -158,7 +162,7 @@ pub fn read_ticket(bytes: &[u8]) -> Reading
     let hops = byte_field(bytes, map, 8, fixed);
     let length = fixed + trail_length(map, hops);
     if both(hops_fit(map, hops), bytes.len() == length) {
-        accepted(decode(bytes, map, hops))
+        accepted(ticket_as(bytes, map, hops))
     } else {
         refused()
     }

@@ -1,7 +1,11 @@
-// The request reader: any bytes to a request, or 60 (document 01, "Requests").
+// The request reader: any bytes to a request, or 60 (R4.3).
 use crate::both;
 use crate::byte_field;
 use crate::errors::is_accepted;
+use crate::field::Counted;
+use crate::field::Field;
+use crate::field::Numbers;
+use crate::field::Parts;
 use crate::map_of;
 use crate::present;
 use crate::reader::accepted;
@@ -9,12 +13,8 @@ use crate::reader::read_ticket;
 use crate::take_field;
 use crate::ticket::blank_ticket;
 use definitions::Answer;
-use definitions::Counted;
 use definitions::Error;
-use definitions::Field;
 use definitions::Kind;
-use definitions::Numbers;
-use definitions::Parts;
 use definitions::Path;
 use definitions::Reading;
 use definitions::Request;
@@ -26,15 +26,15 @@ ghost use mathlib.Core.List.{List};
 ghost use Prim.Native.Nat.{ℕ, _+_, _≤_, _<_};
 ghost use lib.ListN.{length};
 ghost use Rattle.definitions.specs.Fields.{widthOf, offsetOf};
-ghost use Rattle.definitions.specs.Cursor.{Taken, NumbersTaken, SpanTaken, PartsTaken};
+ghost use Rattle.record.specs.Cursor.{Taken, NumbersTaken, SpanTaken, PartsTaken};
 ghost use Rattle.definitions.specs.Requests.{requestLayout, mapFits, pathIf, pathOf, embeddedIn, hasTicket, refusedRequest, requestFor, readRequest};
 
-// The map bits that a request of each kind needs, and those that it may have. There is no kind 0.
+// The map bits that a request of each kind needs, and those that it may have (R4.2). There is no kind 0.
 const NEEDED: [u16; 5] = [0, 0x41, 0x91, 0x51, 0xB3];
 
 const ALLOWED: [u16; 5] = [0, 0x4B, 0x9B, 0x5B, 0xBF];
 
-// The bytes of the field of each map bit; of the tickets and the names, bits 4 to 7, they are the length byte's.
+// The bytes of the field of each map bit (R4.1); of the tickets and the names, bits 4 to 7, they are the length byte's.
 const WIDTHS: [usize; 8] = [1, 4, 4, 4, 1, 1, 1, 1];
 
 // Whether a map has the bits that a kind needs, and none beyond those that it may have.
@@ -108,12 +108,12 @@ fn take_numbers(bytes: &[u8], map: u16) -> Numbers
 {
     let kind = request_field(bytes, map, 0, 2);
     let options = request_field(bytes, map, 1, kind.next);
-    let pac = request_field(bytes, map, 2, options.next);
-    let till = request_field(bytes, map, 3, pac.next);
+    let pac_options = request_field(bytes, map, 2, options.next);
+    let till = request_field(bytes, map, 3, pac_options.next);
     Numbers {
         kind: kind.value as u8,
         options: options.value,
-        pac: pac.value,
+        pac_options: pac_options.value,
         till: till.value,
         next: till.next,
     }
@@ -161,7 +161,7 @@ fn take_parts(bytes: &[u8], map: u16, at: usize) -> Parts
 }
 
 // The ticket of a part of the request, a blank one where the map has none.
-fn embedded(bytes: &[u8], map: u16, bit: usize, span: Span) -> Reading
+fn embedded_in(bytes: &[u8], map: u16, bit: usize, span: Span) -> Reading
     requires { ⌜ (bit < 8) × (span .at + span .len ≤ length (now bytes)) ⌝ }
     ensures { λ r. ⌜ r ≡ embeddedIn (now (bytes .entry)) map bit span ⌝ }
 {
@@ -192,7 +192,7 @@ fn refused_request() -> RequestReading
         request: Request {
             kind: Kind::Initial,
             options: 0,
-            pac: 0,
+            pac_options: 0,
             till: 0,
             tgt: blank,
             evidence: blank,
@@ -209,8 +209,8 @@ fn with_parts(bytes: &[u8], map: u16, kind: Kind, n: Numbers, p: Parts) -> Reque
 {
     let t = p.tgt;
     let e = p.evidence;
-    let tgt = embedded(bytes, map, 4, t);
-    let evidence = embedded(bytes, map, 5, e);
+    let tgt = embedded_in(bytes, map, 4, t);
+    let evidence = embedded_in(bytes, map, 5, e);
     if !both(has_ticket(tgt), has_ticket(evidence)) {
         return refused_request();
     }
@@ -223,7 +223,7 @@ fn with_parts(bytes: &[u8], map: u16, kind: Kind, n: Numbers, p: Parts) -> Reque
         request: Request {
             kind,
             options: n.options,
-            pac: n.pac,
+            pac_options: n.pac_options,
             till: n.till,
             tgt: t,
             evidence: e,

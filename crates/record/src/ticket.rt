@@ -1,5 +1,6 @@
-// What a ticket value tells: the map and the back numbers of its origin; and the blank ticket (document 01, "Ticket records").
+// What a ticket value tells: the map and the back numbers of its origin; and the blank ticket (R3.2, R3.3).
 use definitions::Origin;
+use definitions::TRAIL_LIMIT;
 use definitions::Ticket;
 use definitions::Window;
 ghost use mathlib.Core.Path.{_≡_};
@@ -7,38 +8,38 @@ ghost use Prim.Native.Nat.{_<_};
 ghost use Rattle.definitions.specs.TicketRecords.{originMap, tgtOf, evidenceOf, blankTicket};
 
 // The map of an origin, without the barred mark.
-pub fn origin_map(origin: Origin) -> u16
+pub(crate) fn origin_map(origin: Origin) -> u16
     ensures exact { λ r. ⌜ r ≡ originMap origin ⌝ }
     ensures bounded { λ r. ⌜ r < 0x0800 ⌝ }
 {
     match origin {
         Origin::Initial => 0x0037,
         Origin::Direct(_) => 0x007F,
-        Origin::SelfIssued(_) => 0x047F,
+        Origin::S4U2self(_) => 0x047F,
         Origin::Delegated(_, _) => 0x01FF,
     }
 }
 
 // The number of the TGT that a ticket rests on, 0 of an initial ticket.
-pub fn tgt_of(origin: Origin) -> u16
+pub(crate) fn tgt_of(origin: Origin) -> u16
     ensures { λ r. ⌜ r ≡ tgtOf origin ⌝ }
 {
     match origin {
         Origin::Initial => 0,
         Origin::Direct(tgt) => tgt,
-        Origin::SelfIssued(tgt) => tgt,
+        Origin::S4U2self(tgt) => tgt,
         Origin::Delegated(tgt, _) => tgt,
     }
 }
 
 // The number of the evidence that a ticket rests on, 0 where there is none.
-pub fn evidence_of(origin: Origin) -> u16
+pub(crate) fn evidence_of(origin: Origin) -> u16
     ensures { λ r. ⌜ r ≡ evidenceOf origin ⌝ }
 {
     match origin {
         Origin::Initial => 0,
         Origin::Direct(_) => 0,
-        Origin::SelfIssued(_) => 0,
+        Origin::S4U2self(_) => 0,
         Origin::Delegated(_, evidence) => evidence,
     }
 }
@@ -47,7 +48,7 @@ pub fn evidence_of(origin: Origin) -> u16
 pub fn blank_ticket() -> Ticket
     ensures { λ r. ⌜ r ≡ blankTicket ⌝ }
 {
-    let trail = [0u8; 8];
+    let trail = [0u8; TRAIL_LIMIT];
     Ticket {
         number: 0,
         flags: 0,

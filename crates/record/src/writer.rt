@@ -1,4 +1,4 @@
-// The ticket writer: any ticket value and any output to the ticket's record, 60 or 52 (document 01, "Ticket records").
+// The ticket writer: any ticket value and any output to the ticket's record, 60 or 52 (R3.6, R3.7).
 // Each function that puts bytes returns the position past them.
 use crate::both;
 use crate::has_bit;
@@ -10,17 +10,21 @@ use crate::ticket::evidence_of;
 use crate::ticket::origin_map;
 use crate::ticket::tgt_of;
 use definitions::Error;
+use definitions::LONGEST_RECORD;
 use definitions::Origin;
+use definitions::Principal;
+use definitions::TRAIL_LIMIT;
 use definitions::Ticket;
 use definitions::Window;
 use definitions::Written;
 ghost use mathlib.Core.Path.{_≡_};
 ghost use Prim.Native.Nat.{_+_, _≤_, _<_, min};
 ghost use lib.ListN.{length, take, drop};
+ghost use Rattle.definitions.specs.Limits.{longestRecord, trailLimit};
 ghost use Rattle.definitions.specs.Fields.{widthOf, bigEndian, fieldBytes};
 ghost use Rattle.definitions.specs.TicketRecords.{ticketLayout, mapFor, allZero, serviceFits, wellFormed, pairBytes, headBytes, trailBytes, tailBytes, recordOf};
 ghost use Rattle.definitions.specs.Output.{writtenOf, outputOf};
-ghost use Rattle.definitions.specs.Cursor.{Wrote};
+ghost use Rattle.record.specs.Cursor.{Wrote};
 
 // The map of an origin, with or without the barred mark.
 fn map_for(origin: Origin, barred: bool) -> u16
@@ -119,8 +123,14 @@ fn put_pair(out: &mut [u8], at: usize, map: u16, bit: usize, x: u32, y: u32) -> 
 }
 
 // Puts the trail behind its count, if the map has one.
-fn put_trail(out: &mut [u8], at: usize, map: u16, trail: [u8; 8], hops: u8) -> usize
-    requires { ⌜ (at + 9 ≤ length (now out)) × (hops ≤ 8) ⌝ }
+fn put_trail(
+    out: &mut [u8],
+    at: usize,
+    map: u16,
+    trail: [Principal; TRAIL_LIMIT],
+    hops: u8,
+) -> usize
+    requires { ⌜ (at + 9 ≤ length (now out)) × (hops ≤ trailLimit) ⌝ }
     ensures put { λ r. ⌜ Wrote (now (out .entry)) at (trailBytes map trail hops) (now (out .exit)) r ⌝ }
     ensures bounded { λ r. ⌜ r ≤ at + 9 ⌝ }
 {
@@ -134,7 +144,7 @@ fn put_trail(out: &mut [u8], at: usize, map: u16, trail: [u8; 8], hops: u8) -> u
 
 // Puts the map and the fields of bits 0 to 3.
 fn put_head(out: &mut [u8], t: Ticket, map: u16) -> usize
-    requires { ⌜ 31 ≤ length (now out) ⌝ }
+    requires { ⌜ longestRecord ≤ length (now out) ⌝ }
     ensures put { λ r. ⌜ Wrote (now (out .entry)) 0 (headBytes t map) (now (out .exit)) r ⌝ }
     ensures bounded { λ r. ⌜ r ≤ 10 ⌝ }
 {
@@ -145,9 +155,9 @@ fn put_head(out: &mut [u8], t: Ticket, map: u16) -> usize
 
 // Puts the fields of bits 4 to 8.
 fn put_tail(out: &mut [u8], at: usize, t: Ticket, map: u16) -> usize
-    requires { ⌜ (at ≤ 10) × (31 ≤ length (now out)) × (t .hops ≤ 8) ⌝ }
+    requires { ⌜ (at ≤ 10) × (longestRecord ≤ length (now out)) × (t .hops ≤ trailLimit) ⌝ }
     ensures put { λ r. ⌜ Wrote (now (out .entry)) at (tailBytes t map) (now (out .exit)) r ⌝ }
-    ensures bounded { λ r. ⌜ r ≤ 31 ⌝ }
+    ensures bounded { λ r. ⌜ r ≤ longestRecord ⌝ }
 {
     let origin = t.origin;
     let trail = t.trail;
@@ -163,26 +173,30 @@ fn put_tail(out: &mut [u8], at: usize, t: Ticket, map: u16) -> usize
     put_trail(out, b, map, trail, t.hops)
 }
 
-// The hops that the eight places of a trail hold.
-fn eight_at_most(hops: u8) -> u8
-    ensures exact { λ r. ⌜ r ≡ min hops 8 ⌝ }
-    ensures bounded { λ r. ⌜ r ≤ 8 ⌝ }
+// The hops that the places of a trail hold.
+fn trail_at_most(hops: u8) -> u8
+    ensures exact { λ r. ⌜ r ≡ min hops trailLimit ⌝ }
+    ensures bounded { λ r. ⌜ r ≤ trailLimit ⌝ }
 {
-    if hops < 8 { hops } else { 8 }
+    if hops < TRAIL_LIMIT as u8 {
+        hops
+    } else {
+        TRAIL_LIMIT as u8
+    }
 }
 
 // The length of a ticket's record.
 pub fn record_length(t: Ticket) -> usize
     ensures exact { λ r. ⌜ r ≡ length (recordOf t) ⌝ }
-    ensures bounded { λ r. ⌜ r ≤ 31 ⌝ }
+    ensures bounded { λ r. ⌜ r ≤ longestRecord ⌝ }
 {
     let origin = t.origin;
     let map = map_for(origin, t.barred);
     let fixed = fixed_length(map);
-    fixed + trail_length(map, eight_at_most(t.hops))
+    fixed + trail_length(map, trail_at_most(t.hops))
 }
 
-// The record of a ticket, at the start of the output; 60 to a ticket that has none, then 52 to an output under 31 bytes.
+// The record of a ticket, at the start of the output; 60 to a ticket that has none, then 52 to an output shorter than the longest record.
 pub fn write_ticket(t: Ticket, out: &mut [u8]) -> Written
     ensures answer { λ r. ⌜ r ≡ writtenOf t (length (now (out .entry))) ⌝ }
     ensures output { λ _. ⌜ now (out .exit) ≡ outputOf t (now (out .entry)) ⌝ }
@@ -192,7 +206,7 @@ pub fn write_ticket(t: Ticket, out: &mut [u8]) -> Written
     if !well_formed(t, map) {
         return Written::Refused(Error::KRB_ERR_GENERIC);
     }
-    if out.len() < 31 {
+    if out.len() < LONGEST_RECORD {
         return Written::Refused(Error::KRB_ERR_RESPONSE_TOO_BIG);
     }
     let at = put_head(out, t, map);

@@ -1,5 +1,5 @@
-// Answers vectors over the record layer (document 01, "Ticket records", "Requests" and the records of "Hops and a morning"). Each line of
-// standard input is one vector; standard output has the line again, then ` -> ` and the answer.
+// Answers vectors over the record layer (R3, R4, and the records of R11.3). Each line of standard input is one vector; standard output has
+// the line again, then ` -> ` and the answer.
 //
 //     ticket RECORD        the ticket reader's number, and after 0 the ticket's fields
 //     write SIZE RECORD    the ticket of a record that reads, written to an output of SIZE bytes, 0 to 40, that held 0xee: the record's
@@ -13,7 +13,9 @@
 // trail 8, barred 1. The files `stdin` and `stdout` come from a second implementation (harness/src/bin/record_vectors.rs).
 use definitions::Kind;
 use definitions::Origin;
+use definitions::Principal;
 use definitions::Request;
+use definitions::TRAIL_LIMIT;
 use definitions::Ticket;
 use definitions::Window;
 use definitions::Written;
@@ -146,15 +148,15 @@ fn origin_of(value: &Space) -> Origin {
     match value[16] {
         0 => Origin::Initial,
         1 => Origin::Direct(short(value, 17)),
-        2 => Origin::SelfIssued(short(value, 17)),
+        2 => Origin::S4U2self(short(value, 17)),
         _ => Origin::Delegated(short(value, 17), short(value, 19)),
     }
 }
 
 // The eight places of the trail.
-fn trail_of(value: &Space) -> [u8; 8] {
-    let mut trail = [0u8; 8];
-    for i in 0..8 {
+fn trail_of(value: &Space) -> [Principal; TRAIL_LIMIT] {
+    let mut trail = [0u8; TRAIL_LIMIT];
+    for i in 0..TRAIL_LIMIT {
         trail[i] = value[22 + i];
     }
     trail
@@ -195,13 +197,13 @@ fn print_origin(origin: Origin) {
     match origin {
         Origin::Initial => print_back(b"initial", 0, 0),
         Origin::Direct(tgt) => print_back(b"direct", tgt, 0),
-        Origin::SelfIssued(tgt) => print_back(b"self", tgt, 0),
+        Origin::S4U2self(tgt) => print_back(b"self", tgt, 0),
         Origin::Delegated(tgt, evidence) => print_back(b"delegated", tgt, evidence),
     }
 }
 
 // The trail's accounts and the barred mark.
-fn print_tail(trail: [u8; 8], hops: u8, barred: bool) {
+fn print_tail(trail: [Principal; TRAIL_LIMIT], hops: u8, barred: bool) {
     print_bytes(first(&trail, hops as usize));
     print_filled(b" barred=%", &[barred as u64]);
 }
@@ -305,7 +307,7 @@ fn print_request(r: Request) {
         &[
             kind_number(kind),
             r.options as u64,
-            r.pac as u64,
+            r.pac_options as u64,
             r.till as u64,
             tgt.number as u64,
             evidence.number as u64,

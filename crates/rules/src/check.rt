@@ -1,59 +1,45 @@
-// Checks in the order of document 01, "Error numbers": the first that fails gives the answer.
-use crate::AccountWords;
-use crate::account_at;
+// The checks of a request, in the order of R6.2; each function answers the first that fails.
+use crate::accounts::is_enabled;
+use crate::accounts::is_service;
+use crate::routes::is_permitted;
+use crate::words::AccountWords;
+use crate::words::account_at;
 use definitions::Account;
 use definitions::Answer;
 use definitions::Error;
 use definitions::Held;
+use definitions::LONGEST_RECORD;
 use definitions::Moment;
 use definitions::Origin;
+use definitions::Request;
+use definitions::TICKET_LIMIT;
+use definitions::TRAIL_LIMIT;
 use definitions::Ticket;
 use definitions::Window;
 use record::both;
-use record::has_bit;
-ghost use mathlib.Core.Bool.{cond};
+ghost use mathlib.Core.Bool.{not, cond};
 ghost use mathlib.Core.Path.{_≡_};
-ghost use mathlib.Core.List.{_∷_};
-ghost use Rattle.definitions.specs.Accounts.{serves, barred, tableOf};
+ghost use mathlib.Core.List.{_∷_, _++_};
 ghost use Rattle.definitions.specs.Checks.{andThen, judge};
-ghost use Rattle.definitions.specs.Decisions.{enabled, isInitial, isHeld, roomCheck, tgtChecks, evidenceChecks, serviceCheck, userChecks, lastChecks};
+ghost use Rattle.definitions.specs.Validity.{notYet, ended};
+ghost use Rattle.definitions.specs.AccountWords.{tableOf};
+ghost use Rattle.definitions.specs.Decisions.{isInitial, isHeld, roomCheck, tgtChecks, evidenceChecks, serviceCheck, userChecks, hopChecks, lastChecks};
 
 // What comes after a check that holds, or its refusal.
-pub fn unless(holds: bool, error: Error, rest: Answer) -> Answer
+pub(crate) fn unless(holds: bool, error: Error, rest: Answer) -> Answer
     ensures { λ r. ⌜ r ≡ cond holds rest (Answer.Refused error) ⌝ }
 {
     if holds { rest } else { Answer::Refused(error) }
 }
 
 // The first refusal of two answers.
-pub fn and_then(first: Answer, second: Answer) -> Answer
+pub(crate) fn and_then(first: Answer, second: Answer) -> Answer
     ensures { λ r. ⌜ r ≡ andThen first second ⌝ }
 {
     match first {
         Answer::Accepted => second,
         Answer::Refused(error) => Answer::Refused(error),
     }
-}
-
-// Whether an account is not disabled.
-pub fn is_enabled(account: Account) -> bool
-    ensures { λ r. ⌜ r ≡ enabled account ⌝ }
-{
-    !has_bit(account.flags as u64, 0)
-}
-
-// Whether an account has flag 8.
-pub fn is_service(account: Account) -> bool
-    ensures { λ r. ⌜ r ≡ serves account ⌝ }
-{
-    has_bit(account.flags as u64, 3)
-}
-
-// Whether an account is barred.
-pub fn is_barred(account: Account) -> bool
-    ensures { λ r. ⌜ r ≡ barred account ⌝ }
-{
-    has_bit(account.flags as u64, 1)
 }
 
 // Whether a ticket is initial, by its origin.
@@ -63,7 +49,7 @@ fn is_initial(origin: Origin) -> bool
     match origin {
         Origin::Initial => true,
         Origin::Direct(_) => false,
-        Origin::SelfIssued(_) => false,
+        Origin::S4U2self(_) => false,
         Origin::Delegated(_, _) => false,
     }
 }
@@ -80,9 +66,23 @@ fn is_held(held: Held, ticket: Ticket) -> bool
     }
 }
 
-// The checks of the output and the TGT: 52; 41, 35, 33, 32, 18.
-pub fn check_tgt(words: &AccountWords, m: Moment, tgt: Ticket, held: Held) -> Answer
-    ensures { λ r. ⌜ r ≡ judge (roomCheck m ∷ tgtChecks (tableOf (now (words .entry))) m tgt held) ⌝ }
+// The checks of a presented ticket's window: 33, 32; then what comes after them.
+fn check_window(window: Window, clock: u32, rest: Answer) -> Answer
+    ensures { λ r. ⌜ r ≡ cond (not (notYet window clock)) (cond (not (ended window clock)) rest (Answer.Refused Error.«KRB_AP_ERR_TKT_EXPIRED»)) (Answer.Refused Error.«KRB_AP_ERR_TKT_NYV») ⌝ }
+{
+    if window.valid_at(clock) {
+        return rest;
+    }
+    if window.not_yet(clock) {
+        Answer::Refused(Error::KRB_AP_ERR_TKT_NYV)
+    } else {
+        Answer::Refused(Error::KRB_AP_ERR_TKT_EXPIRED)
+    }
+}
+
+// The checks of the output and the TGT: 52; 41; 35; 33 and 32; 18.
+pub(crate) fn check_tgt(words: &AccountWords, moment: Moment, tgt: Ticket, held: Held) -> Answer
+    ensures { λ r. ⌜ r ≡ judge (roomCheck moment ∷ tgtChecks (tableOf (now (words .entry))) moment tgt held) ⌝ }
 {
     let origin = tgt.origin;
     let window = tgt.window;
@@ -92,28 +92,28 @@ pub fn check_tgt(words: &AccountWords, m: Moment, tgt: Ticket, held: Held) -> An
         Error::KDC_ERR_CLIENT_REVOKED,
         Answer::Accepted,
     );
-    let times = unless(
-        !window.not_yet(m.clock),
-        Error::KRB_AP_ERR_TKT_NYV,
-        unless(!window.ended(m.clock), Error::KRB_AP_ERR_TKT_EXPIRED, last),
-    );
+    let times = check_window(window, moment.clock, last);
     let kept = unless(
         is_held(held, tgt),
         Error::KRB_AP_ERR_MODIFIED,
         unless(is_initial(origin), Error::KRB_AP_ERR_NOT_US, times),
     );
-    unless(31 <= m.room, Error::KRB_ERR_RESPONSE_TOO_BIG, kept)
+    unless(
+        LONGEST_RECORD <= moment.room,
+        Error::KRB_ERR_RESPONSE_TOO_BIG,
+        kept,
+    )
 }
 
-// The checks of the evidence: 41, 33, 32, 26, 18.
-pub fn check_evidence(
+// The checks of the evidence: 41; 33 and 32; 26; 18.
+pub(crate) fn check_evidence(
     words: &AccountWords,
-    m: Moment,
+    moment: Moment,
     evidence: Ticket,
     held: Held,
     tgt: Ticket,
 ) -> Answer
-    ensures { λ r. ⌜ r ≡ judge (evidenceChecks (tableOf (now (words .entry))) m evidence held tgt) ⌝ }
+    ensures { λ r. ⌜ r ≡ judge (evidenceChecks (tableOf (now (words .entry))) moment evidence held tgt) ⌝ }
 {
     let origin = evidence.origin;
     let window = evidence.window;
@@ -128,20 +128,12 @@ pub fn check_evidence(
         Error::KDC_ERR_SERVER_NOMATCH,
         last,
     );
-    let times = unless(
-        !window.not_yet(m.clock),
-        Error::KRB_AP_ERR_TKT_NYV,
-        unless(
-            !window.ended(m.clock),
-            Error::KRB_AP_ERR_TKT_EXPIRED,
-            matched,
-        ),
-    );
+    let times = check_window(window, moment.clock, matched);
     unless(is_held(held, evidence), Error::KRB_AP_ERR_MODIFIED, times)
 }
 
 // The checks of a user: 6, 18; then what comes after them.
-pub fn check_user(user: Account, rest: Answer) -> Answer
+pub(crate) fn check_user(user: Account, rest: Answer) -> Answer
     ensures { λ r. ⌜ r ≡ andThen (judge (userChecks user)) rest ⌝ }
 {
     unless(
@@ -152,7 +144,7 @@ pub fn check_user(user: Account, rest: Answer) -> Answer
 }
 
 // The check of a named service: 7; then what comes after it.
-pub fn check_service(service: Account, rest: Answer) -> Answer
+pub(crate) fn check_service(service: Account, rest: Answer) -> Answer
     ensures { λ r. ⌜ r ≡ cond (serviceCheck service .holds) rest (Answer.Refused (serviceCheck service .error)) ⌝ }
 {
     unless(
@@ -163,16 +155,39 @@ pub fn check_service(service: Account, rest: Answer) -> Answer
 }
 
 // The last checks: 11, 29.
-pub fn check_last(m: Moment, window: Window) -> Answer
-    ensures { λ r. ⌜ r ≡ judge (lastChecks m window) ⌝ }
+pub(crate) fn check_last(moment: Moment, window: Window) -> Answer
+    ensures { λ r. ⌜ r ≡ judge (lastChecks moment window) ⌝ }
 {
     unless(
-        m.clock < window.end,
+        moment.clock < window.end,
         Error::KDC_ERR_NEVER_VALID,
         unless(
-            m.count < 512,
+            moment.count < TICKET_LIMIT,
             Error::KDC_ERR_SVC_UNAVAILABLE,
             Answer::Accepted,
+        ),
+    )
+}
+
+// The checks of a hop and the last ones: 13, 61; 11, 29.
+pub(crate) fn check_hop(
+    request: Request,
+    moment: Moment,
+    first: Account,
+    second: Account,
+    number: usize,
+    window: Window,
+) -> Answer
+    ensures { λ r. ⌜ r ≡ judge (hopChecks first second request (request .tgt) (request .evidence) number ++ lastChecks moment window) ⌝ }
+{
+    let evidence = request.evidence;
+    unless(
+        is_permitted(request, first, second, number),
+        Error::KDC_ERR_BADOPTION,
+        unless(
+            (evidence.hops as usize) < TRAIL_LIMIT,
+            Error::KRB_ERR_FIELD_TOOLONG,
+            check_last(moment, window),
         ),
     )
 }

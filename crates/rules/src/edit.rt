@@ -1,28 +1,37 @@
-// Edits: an edit sets one account whole, and the first fixes its name (document 01, "Accounts" and the row 60, 12, 8 of "Error numbers").
-use crate::AccountWords;
-use crate::account_at;
-use crate::count_words;
+// Edits of accounts (R2.8, R2.9).
 use crate::name::good_name;
 use crate::name::has_name;
 use crate::name::name_taken;
-use crate::pack;
-use crate::put_row;
+use crate::words::AccountWords;
+use crate::words::account_at;
+use crate::words::count_words;
+use crate::words::pack;
+use crate::words::put_row;
+use definitions::ALL_FLAGS;
 use definitions::Account;
 use definitions::Answer;
 use definitions::Error;
+use definitions::LAST_ACCOUNT;
+use definitions::ROW_SIZE;
+use definitions::TWO_8;
+use definitions::TWO_32;
 use record::both;
 use record::is_accepted;
 ghost use mathlib.Core.Path.{_≡_};
 ghost use Prim.Native.Nat.{ℕ, _<_, _≤_};
 ghost use lib.ListN.{length};
-ghost use Rattle.definitions.specs.Accounts.{tableOf, storeRow};
-ghost use Rattle.definitions.specs.Edits.{editOf, readable, keepsName, editAnswer, editRow, edited, storedBy};
+ghost use Rattle.definitions.specs.Limits.{accountLimit, nameLimit, allFlags};
+ghost use Rattle.definitions.specs.AccountWords.{tableOf, storeRow, storedBy};
+ghost use Rattle.definitions.specs.Edits.{editOf, readableEdit, keepsName, editAnswer, editRow, edited};
 
 // Whether an edit's number, name and flags are good.
 fn readable_edit(number: u32, name: &[u8], flags: u32) -> bool
-    ensures { λ r. ⌜ ((s p : ℕ) (l : ℕ) → r ≡ readable (editOf number (now (name .entry)) flags s p l)) ⌝ }
+    ensures { λ r. ⌜ ((s p : ℕ) (l : ℕ) → r ≡ readableEdit (editOf number (now (name .entry)) flags s p l)) ⌝ }
 {
-    both(number <= 63, both(good_name(name), flags <= 15))
+    both(
+        number <= LAST_ACCOUNT,
+        both(good_name(name), flags <= ALL_FLAGS),
+    )
 }
 
 // Whether an account is not set yet, or has this name, byte for byte.
@@ -64,14 +73,14 @@ fn store_row(
     receive: u64,
     lifetime: u32,
 )
-    requires { ⌜ (n < 64) × (length (now name) ≤ 24) × (flags ≤ 15) ⌝ }
+    requires { ⌜ (n < accountLimit) × (length (now name) ≤ nameLimit) × (flags ≤ allFlags) ⌝ }
     ensures { λ _. ⌜ now (words .exit) ≡ storeRow (now (words .entry)) n (editRow (editOf n (now (name .entry)) flags send receive lifetime)) ⌝ }
 {
-    let detail = name.len() as u64 + 256 * flags as u64 + 4294967296 * lifetime as u64;
+    let detail = name.len() as u64 + TWO_8 * flags as u64 + TWO_32 * lifetime as u64;
     let a = pack(name, 0);
     let b = pack(name, 8);
     let c = pack(name, 16);
-    put_row(words, 6 * n, a, b, c, detail, send, receive);
+    put_row(words, ROW_SIZE * n, a, b, c, detail, send, receive);
 }
 
 // Sets one account whole, or refuses.

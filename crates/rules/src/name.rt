@@ -1,10 +1,12 @@
-// Names: which are good, which match, and which account a name stands for (document 01, "Accounts").
-use crate::AccountWords;
-use crate::byte_at;
-use crate::length_at;
-use crate::pack;
-use crate::set_length;
-use definitions::Trace;
+// Names: which are good, which match, and which account a name stands for (R2.5 to R2.7).
+use crate::trace::Trace;
+use crate::words::AccountWords;
+use crate::words::byte_at;
+use crate::words::length_at;
+use crate::words::pack;
+use crate::words::set_length;
+use definitions::ACCOUNT_LIMIT;
+use definitions::ROW_SIZE;
 use record::both;
 ghost use mathlib.Core.Path.{_≡_};
 ghost use mathlib.Core.Bool.{true, false};
@@ -13,10 +15,11 @@ ghost use Prim.Native.Nat.{ℕ, _+_, _*_, _<_, _≤_};
 ghost use lib.ListN.{length, getD};
 ghost use lib.Dec.{eqb};
 ghost use lib.Bits.{bitAnd};
+ghost use Rattle.definitions.specs.Limits.{accountLimit, nameLimit, rowSize, accountsSize};
 ghost use Rattle.definitions.specs.Fields.{Bytes};
-ghost use Rattle.definitions.specs.Accounts.{tableOf, nameAt};
-ghost use Rattle.definitions.specs.Names.{goodByte, goodName, lower, folded, agree, findName, taken};
-ghost use Rattle.definitions.specs.Search.{named, lowsFrom, traceOf};
+ghost use Rattle.definitions.specs.AccountWords.{tableOf, nameAt};
+ghost use Rattle.definitions.specs.Names.{goodByte, goodName, lower, folded, agree, findName, nameTaken};
+ghost use Rattle.rules.specs.Traces.{hasName, lowsFrom, traceOf};
 
 // Whether a byte may stand in a name.
 fn good_byte(c: u8) -> bool
@@ -25,8 +28,8 @@ fn good_byte(c: u8) -> bool
     both(0x21 <= c, both(c <= 0x7E, c != 0x40))
 }
 
-// Whether a name is 1 to 24 good bytes.
-pub fn good_name(name: &[u8]) -> bool
+// Whether a name is good: not empty, not too long, all bytes good.
+pub(crate) fn good_name(name: &[u8]) -> bool
     ensures { λ r. ⌜ r ≡ goodName (now (name .entry)) ⌝ }
 {
     if !set_length(name.len()) {
@@ -43,7 +46,7 @@ pub fn good_name(name: &[u8]) -> bool
 }
 
 // A capital letter as the small one, any other byte as itself.
-fn to_lower(c: u8) -> u8
+fn lower(c: u8) -> u8
     ensures { λ r. ⌜ r ≡ lower c ⌝ }
 {
     if both(0x41 <= c, c <= 0x5A) {
@@ -54,10 +57,10 @@ fn to_lower(c: u8) -> u8
 }
 
 // A byte with letter case ignored, or as it is.
-fn fold(ignore: bool, c: u8) -> u8
+fn folded(ignore: bool, c: u8) -> u8
     ensures { λ r. ⌜ r ≡ folded ignore c ⌝ }
 {
-    if ignore { to_lower(c) } else { c }
+    if ignore { lower(c) } else { c }
 }
 
 // Whether two bytes are the same, with letter case ignored or not. Most are as they stand.
@@ -67,13 +70,13 @@ fn same_byte(ignore: bool, a: u8, b: u8) -> bool
     if a == b {
         return true;
     }
-    fold(ignore, a) == fold(ignore, b)
+    folded(ignore, a) == folded(ignore, b)
 }
 
 // Whether the bytes of a row's name and of another of its length agree, from the last one on.
-fn agrees(words: &AccountWords, n: usize, ignore: bool, name: &[u8]) -> bool
-    requires { ⌜ (n < 64) × (length (now name) ≤ 24) ⌝ }
-    ensures { λ r. ⌜ r ≡ agree ignore (nameAt (now (words .entry)) (6 * n) (length (now (name .entry)))) (now (name .entry)) (length (now (name .entry))) ⌝ }
+fn agree(words: &AccountWords, n: usize, ignore: bool, name: &[u8]) -> bool
+    requires { ⌜ (n < accountLimit) × (length (now name) ≤ nameLimit) ⌝ }
+    ensures { λ r. ⌜ r ≡ agree ignore (nameAt (now (words .entry)) (rowSize * n) (length (now (name .entry)))) (now (name .entry)) (length (now (name .entry))) ⌝ }
 {
     let mut i = name.len();
     while 0 < i {
@@ -86,10 +89,10 @@ fn agrees(words: &AccountWords, n: usize, ignore: bool, name: &[u8]) -> bool
 }
 
 // Whether a row is set and has a name, with letter case ignored or not. The length is looked at first.
-pub fn has_name(words: &AccountWords, n: usize, ignore: bool, name: &[u8]) -> bool
-    ensures { λ r. ⌜ r ≡ named (now (words .entry)) n ignore (now (name .entry)) ⌝ }
+pub(crate) fn has_name(words: &AccountWords, n: usize, ignore: bool, name: &[u8]) -> bool
+    ensures { λ r. ⌜ r ≡ hasName (now (words .entry)) n ignore (now (name .entry)) ⌝ }
 {
-    if 64 <= n {
+    if ACCOUNT_LIMIT <= n {
         return false;
     }
     if length_at(words, n) != name.len() {
@@ -98,7 +101,7 @@ pub fn has_name(words: &AccountWords, n: usize, ignore: bool, name: &[u8]) -> bo
     if !set_length(name.len()) {
         return false;
     }
-    agrees(words, n, ignore, name)
+    agree(words, n, ignore, name)
 }
 
 // The low five bits of each of eight bytes, which letter case leaves alone.
@@ -140,7 +143,7 @@ fn trace_of(name: &[u8]) -> Trace
 
 // Whether a word of a row's name may be that of a name with this trace.
 fn fits_trace(words: &AccountWords, at: usize, mask: u64, low: u64) -> bool
-    requires { ⌜ at < 384 ⌝ }
+    requires { ⌜ at < accountsSize ⌝ }
     ensures { λ r. ⌜ r ≡ eqb (bitAnd (getD (now (words .entry)) at 0) mask) low ⌝ }
 {
     words[at] & mask == low
@@ -148,25 +151,25 @@ fn fits_trace(words: &AccountWords, at: usize, mask: u64, low: u64) -> bool
 
 // Whether a row may match the name of a trace. Few that do not match get past this.
 fn may_match(words: &AccountWords, n: usize, t: Trace) -> bool
-    requires { ⌜ n < 64 ⌝ }
-    ensures { λ r. ⌜ ((s : List ℕ) → Bytes s → t ≡ traceOf s → r ≡ false → named (now (words .entry)) n true s ≡ false) ⌝ }
+    requires { ⌜ n < accountLimit ⌝ }
+    ensures { λ r. ⌜ ((s : List ℕ) → Bytes s → t ≡ traceOf s → r ≡ false → hasName (now (words .entry)) n true s ≡ false) ⌝ }
 {
     if length_at(words, n) != t.length {
         return false;
     }
-    if !fits_trace(words, 6 * n, t.mask0, t.low0) {
+    if !fits_trace(words, ROW_SIZE * n, t.mask0, t.low0) {
         return false;
     }
-    if !fits_trace(words, 6 * n + 1, t.mask1, t.low1) {
+    if !fits_trace(words, ROW_SIZE * n + 1, t.mask1, t.low1) {
         return false;
     }
-    fits_trace(words, 6 * n + 2, t.mask2, t.low2)
+    fits_trace(words, ROW_SIZE * n + 2, t.mask2, t.low2)
 }
 
 // Whether a row is set and matches a name, whose trace is given.
-fn matches(words: &AccountWords, n: usize, name: &[u8], t: Trace) -> bool
-    requires { ⌜ (n < 64) × (t ≡ traceOf (now name)) ⌝ }
-    ensures { λ r. ⌜ r ≡ named (now (words .entry)) n true (now (name .entry)) ⌝ }
+fn matches_name(words: &AccountWords, n: usize, name: &[u8], t: Trace) -> bool
+    requires { ⌜ (n < accountLimit) × (t ≡ traceOf (now name)) ⌝ }
+    ensures { λ r. ⌜ r ≡ hasName (now (words .entry)) n true (now (name .entry)) ⌝ }
 {
     if may_match(words, n, t) {
         has_name(words, n, true, name)
@@ -175,30 +178,30 @@ fn matches(words: &AccountWords, n: usize, name: &[u8], t: Trace) -> bool
     }
 }
 
-// The lowest account that is set and matches a name; 64 where none does.
-pub fn find_name(words: &AccountWords, name: &[u8]) -> usize
+// The lowest account that is set and matches a name; one past the last where none does.
+pub(crate) fn find_name(words: &AccountWords, name: &[u8]) -> usize
     ensures exact { λ r. ⌜ r ≡ findName (tableOf (now (words .entry))) (now (name .entry)) ⌝ }
-    ensures bounded { λ r. ⌜ r ≤ 64 ⌝ }
+    ensures bounded { λ r. ⌜ r ≤ accountLimit ⌝ }
 {
     let t = trace_of(name);
     let mut i = 0;
-    while i < 64 {
-        if matches(words, i, name, t) {
+    while i < ACCOUNT_LIMIT {
+        if matches_name(words, i, name, t) {
             return i;
         }
         i += 1;
     }
-    64
+    ACCOUNT_LIMIT
 }
 
 // Whether another account than a given one is set and matches a name.
-pub fn name_taken(words: &AccountWords, number: usize, name: &[u8]) -> bool
-    ensures { λ r. ⌜ r ≡ taken number 0 (tableOf (now (words .entry))) (now (name .entry)) ⌝ }
+pub(crate) fn name_taken(words: &AccountWords, number: usize, name: &[u8]) -> bool
+    ensures { λ r. ⌜ r ≡ nameTaken number 0 (tableOf (now (words .entry))) (now (name .entry)) ⌝ }
 {
     let t = trace_of(name);
     let mut i = 0;
-    while i < 64 {
-        if both(i != number, matches(words, i, name, t)) {
+    while i < ACCOUNT_LIMIT {
+        if both(i != number, matches_name(words, i, name, t)) {
             return true;
         }
         i += 1;

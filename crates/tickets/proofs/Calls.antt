@@ -1,4 +1,4 @@
--- Laws of the exported calls. Document 01, "Ticket records", "Requests", "The plain book" and "Error numbers".
+-- Laws of the exported calls.
 -- What a reading says of the answer and of the output, the bound on the length of a record that is written again, and the ledger's promises
 -- in numbers.
 -- Assumes nothing.
@@ -9,28 +9,27 @@ use mathlib.Core.Bool.{Bool, true, false, cond}
 use mathlib.Core.List.{List, []}
 use lib.ListN.{length}
 use lib.Dec.{leb}
+use Rattle.definitions.specs.Limits.{longestRecord}
 use Rattle.definitions.specs.Errors.{answerNumber}
 use Rattle.definitions.specs.Fields.{Bytes}
 use Rattle.definitions.specs.TicketRecords.{blankTicket, wellFormed, mapOfTicket, recordOf, readTicket, accepted}
 use Rattle.definitions.specs.Output.{writtenOf}
-use Rattle.definitions.specs.declared.errors.Error.{Error}
-use Rattle.definitions.specs.declared.errors.Error.the-variants.{«KRB_ERR_RESPONSE_TOO_BIG», «KRB_ERR_GENERIC»}
-use Rattle.definitions.specs.declared.errors.Answer.{Answer}
-use Rattle.definitions.specs.declared.errors.Answer.the-variants.{Accepted}
+use Rattle.definitions.specs.declared.error.Error.{Error}
+use Rattle.definitions.specs.declared.error.Error.the-variants.{«KRB_ERR_RESPONSE_TOO_BIG», «KRB_ERR_GENERIC»}
+use Rattle.definitions.specs.declared.error.Answer.{Answer}
+use Rattle.definitions.specs.declared.error.Answer.the-variants.{Accepted}
 use Rattle.definitions.specs.declared.ticket.Ticket.{Ticket}
 use Rattle.definitions.specs.declared.ticket.Reading.{Reading}
 use Rattle.definitions.specs.declared.ticket.Written.{Written}
 use Rattle.definitions.specs.declared.ticket.Written.the-variants.{Length, Refused as Unwritten}
 use Rattle.definitions.proofs.TicketRecords.{record-most}
 use Rattle.definitions.proofs.RoundTrip.{given-writable}
-use Rattle.definitions.specs.Accounts.{tableOf}
-use Rattle.definitions.specs.Edits.{Edit, editAnswer, storedBy}
+use Rattle.definitions.specs.AccountWords.{tableOf}
+use Rattle.definitions.specs.Edits.{Edit, editAnswer}
 use Rattle.definitions.specs.declared.decision.Decision.{Decision}
-use Rattle.definitions.specs.Words.{ticketsOf}
-use Rattle.definitions.specs.Answers.{decideRequest}
-use Rattle.definitions.specs.Promises.{Edited, Requested}
+use Rattle.definitions.specs.Promises.{Edited, Requested, Service}
 use Rattle.tickets.specs.declared.TicketsAnswer.{TicketsAnswer}
-use Rattle.tickets.specs.Calls.{answerOf, requestAnswer, replyWith}
+use Rattle.tickets.specs.Calls.{EditCall, RequestCall, decisionOf, answerIn, requestAnswer, replyWith}
 
 never : (P : Type 0) (e : Error) (n : ℕ) → Unwritten e ≡ Length n → P
 never P e n h = let z : _≡_ {A = ℕ} 0 1 = cc in absurd (omega arith)
@@ -38,7 +37,7 @@ never P e n h = let z : _≡_ {A = ℕ} 0 1 = cc in absurd (omega arith)
 -- the length that the writer answers is the record's
 written-length : (t : Ticket) (k n : ℕ) → writtenOf t k ≡ Length n → length (recordOf t) ≡ n
 unfolding writtenOf
-written-length t k n h = by (wellFormed t (mapOfTicket t)) (leb 31 k) h
+written-length t k n h = by (wellFormed t (mapOfTicket t)) (leb longestRecord k) h
   where
     by : (p q : Bool) → cond p (cond q (Length (length (recordOf t))) (Unwritten «KRB_ERR_RESPONSE_TOO_BIG»)) (Unwritten «KRB_ERR_GENERIC») ≡ Length n
         → length (recordOf t) ≡ n
@@ -48,7 +47,7 @@ written-length t k n h = by (wellFormed t (mapOfTicket t)) (leb 31 k) h
 
 -- what the writer writes of a ticket that was read has 31 bytes at most
 pub value-most : (s : List ℕ) → Bytes s → (r : Reading) → r ≡ readTicket s → r .answer ≡ Accepted
-    → (w : Written) (k n : ℕ) → w ≡ writtenOf (r .ticket) k → w ≡ Length n → n ≤ 31
+    → (w : Written) (k n : ℕ) → w ≡ writtenOf (r .ticket) k → w ≡ Length n → n ≤ longestRecord
 value-most s b r e a w k n h l =
     let read : readTicket s ≡ accepted (r .ticket) = sym e ∙ (λ i. record { answer = a i; ticket = r .ticket }) in
     let most = record-most (r .ticket) (given-writable (r .ticket) (record { bytes = s; are-bytes = b; read = read }) .in-range .places) in
@@ -56,18 +55,18 @@ value-most s b r e a w k n h l =
 
 -- ---- An edit's promise, in numbers
 pub edit-call : (w w' : List ℕ) (x : Edit) (r : Answer)
-    → Edited (record { accounts = w; ledger = [] }) x (record { answer = r; ticket = blankTicket; output = [] }) (record { accounts = w'; ledger = [] })
-    → (n : ℕ) → n ≡ answerNumber r → (n ≡ answerNumber (editAnswer (tableOf w) x)) × (w' ≡ storedBy (editAnswer (tableOf w) x) w x)
-edit-call w w' x r p n e = (e ∙ ap answerNumber (p .answered), p .accounts ∙ ap (λ (y : Answer). storedBy y w x) (p .answered))
+    → ((l : List ℕ) → Edited (record { accounts = w; ledger = l }) x (record { answer = r; ticket = blankTicket; output = [] }) (record { accounts = w'; ledger = l }))
+    → (n : ℕ) → n ≡ answerNumber r → EditCall w x n w'
+edit-call w w' x r p n e =
+    let a : r ≡ editAnswer (tableOf w) x = p [] .answered in
+    record { answered = e ∙ ap answerNumber a; promise = λ l. rw (← a) (p l) }
 
 -- ---- A request's promise, in numbers
-module _ (a w s : List ℕ) (clock : ℕ) (o : List ℕ) (d : Decision) (w' o' : List ℕ)
-    (p : Requested (record { accounts = a; ledger = w }) s clock o (replyWith d o') (record { accounts = a; ledger = w' })) where
-  decided : d ≡ decideRequest (tableOf a) (ticketsOf w) s clock (length o)
-  decided = p .decided
-
-  pub request-call : (r : Answer) → d .answer ≡ r → (x : TicketsAnswer) → x ≡ answerOf r (d .ticket)
-      → (x ≡ requestAnswer (decideRequest (tableOf a) (ticketsOf w) s clock (length o)))
-      × Requested (record { accounts = a; ledger = w }) s clock o (replyWith (decideRequest (tableOf a) (ticketsOf w) s clock (length o)) o') (record { accounts = a; ledger = w' })
-  request-call r h x e =
-      (e ∙ ap (λ (y : Answer). answerOf y (d .ticket)) (sym h) ∙ ap requestAnswer decided, rw (← decided) p)
+pub request-call : (s s' : Service) (bytes : List ℕ) (clock : ℕ) (o o' : List ℕ) (d : Decision) → Requested s bytes clock o (replyWith d o') s'
+    → (r : Answer) → d .answer ≡ r → (x : TicketsAnswer) → x ≡ answerIn r (d .ticket) → RequestCall s bytes clock o x o' s'
+request-call s s' bytes clock o o' d p r h x e =
+    let q : d ≡ decisionOf s bytes clock o = p .decided in
+    record {
+      answered = e ∙ ap (λ (y : Answer). answerIn y (d .ticket)) (sym h) ∙ ap requestAnswer q;
+      promise = rw (← q) p;
+    }

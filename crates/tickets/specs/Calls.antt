@@ -1,14 +1,20 @@
--- What the exported functions answer, in numbers. Document 01, "Ticket records", "Requests", "The plain book" and "Error numbers".
+-- What the exported functions answer, in numbers, and the promises of the calls as a C caller has them.
 -- Assumes nothing.
 use Prim.Native.Nat.{ℕ}
+use mathlib.Core.Path.{_≡_}
 use mathlib.Core.List.{List, [], _∷_}
 use lib.ListN.{length}
-use Rattle.definitions.specs.Errors.{numberOf}
-use Rattle.definitions.specs.TicketRecords.{recordOf}
+use Rattle.definitions.specs.Errors.{errorNumber, answerNumber}
+use Rattle.definitions.specs.TicketRecords.{blankTicket, recordOf}
 use Rattle.definitions.specs.Output.{writtenOf, outputOf}
-use Rattle.definitions.specs.declared.errors.Error.{Error}
-use Rattle.definitions.specs.declared.errors.Answer.{Answer}
-use Rattle.definitions.specs.declared.errors.Answer.the-variants.{Accepted, Refused}
+use Rattle.definitions.specs.AccountWords.{tableOf}
+use Rattle.definitions.specs.Edits.{Edit, editAnswer}
+use Rattle.definitions.specs.LedgerWords.{ticketsOf}
+use Rattle.definitions.specs.Answers.{decideRequest, Reply}
+use Rattle.definitions.specs.Promises.{Service, Edited, Requested}
+use Rattle.definitions.specs.declared.error.Error.{Error}
+use Rattle.definitions.specs.declared.error.Answer.{Answer}
+use Rattle.definitions.specs.declared.error.Answer.the-variants.{Accepted, Refused}
 use Rattle.definitions.specs.declared.ticket.Ticket.{Ticket}
 use Rattle.definitions.specs.declared.ticket.Reading.{Reading}
 use Rattle.definitions.specs.declared.ticket.Written.{Written}
@@ -18,39 +24,40 @@ use Rattle.definitions.specs.declared.request.Kind.the-variants.{Initial, Direc
 use Rattle.definitions.specs.declared.request.Request.{Request}
 use Rattle.definitions.specs.declared.request.RequestReading.{RequestReading}
 use Rattle.definitions.specs.declared.decision.Decision.{Decision}
-use Rattle.definitions.specs.Promises.{Reply}
-use Rattle.definitions.specs.declared.descent.Descended.{Descended}
-use Rattle.definitions.specs.declared.descent.Descended.the-variants.{Steps, Refused as NoDescent}
+use Rattle.definitions.specs.declared.descended.Descended.{Descended}
+use Rattle.definitions.specs.declared.descended.Descended.the-variants.{Steps, Refused as NoDescent}
 use Rattle.tickets.specs.declared.TicketsAnswer.{TicketsAnswer}
 
--- a refusal's number, with no value
-abbrev pub refusal : Error → TicketsAnswer
-refusal e = record { error = numberOf e; value = 0 }
+-- R6.8: the answer of a refusal: its number, with no value
+abbrev pub errorAnswer : Error → TicketsAnswer
+errorAnswer error = record { error = errorNumber error; value = 0 }
 
--- the writer's answer: no error and the record's length, or a refusal
+-- ---- A record, read and written again
+-- R3.7: the writer's answer: no error and the record's length, or a refusal
 abbrev pub writtenAnswer : Written → TicketsAnswer
-writtenAnswer (Length n) = record { error = 0; value = n }
-writtenAnswer (Unwritten e) = refusal e
+writtenAnswer (Length written) = record { error = 0; value = written }
+writtenAnswer (Unwritten error) = errorAnswer error
 
--- a ticket that was read is written to an output of n bytes; a refusal of the reader stays one
+-- a ticket that was read is written to an output of so many bytes; a refusal of the reader stays one
 abbrev pub writeRead : Answer → Ticket → ℕ → TicketsAnswer
-writeRead Accepted t n = writtenAnswer (writtenOf t n)
-writeRead (Refused e) t n = refusal e
+writeRead Accepted ticket room = writtenAnswer (writtenOf ticket room)
+writeRead (Refused error) ticket room = errorAnswer error
 
--- the answer to a record that is to be written again to an output of n bytes
+-- the answer to a record that is to be written again to an output of so many bytes
 abbrev pub rewriteAnswer : Reading → ℕ → TicketsAnswer
-rewriteAnswer r n = writeRead (r .answer) (r .ticket) n
+rewriteAnswer reading room = writeRead (reading .answer) (reading .ticket) room
 
 -- the output after the writer, or as it was
 abbrev pub outputRead : Answer → Ticket → List ℕ → List ℕ
-outputRead Accepted t out = outputOf t out
-outputRead (Refused e) t out = out
+outputRead Accepted ticket output = outputOf ticket output
+outputRead (Refused error) ticket output = output
 
 -- the output after that call
 abbrev pub rewriteOutput : Reading → List ℕ → List ℕ
-rewriteOutput r out = outputRead (r .answer) (r .ticket) out
+rewriteOutput reading output = outputRead (reading .answer) (reading .ticket) output
 
--- "1 initial, 2 direct, 3 S4U2self, 4 S4U2proxy"
+-- ---- A request, read
+-- R4.2: the number of each kind
 abbrev pub kindNumber : Kind → ℕ
 kindNumber Initial = 1
 kindNumber Direct = 2
@@ -59,39 +66,55 @@ kindNumber S4U2proxy = 4
 
 -- kind, options, PAC options, till, the numbers of the TGT and of the evidence, and where the user's and the service's name lie
 abbrev pub requestFields : Request → List ℕ
-requestFields q =
-    kindNumber (q .kind) ∷ q .options ∷ q .pac ∷ q .till ∷ q .tgt .number ∷ q .evidence .number ∷ q .user .at ∷ q .user .len
-    ∷ q .service .at ∷ q .service .len ∷ []
+requestFields request =
+    kindNumber (request .kind) ∷ request .options ∷ request .«pac_options» ∷ request .till ∷ request .tgt .number
+    ∷ request .evidence .number ∷ request .user .at ∷ request .user .len ∷ request .service .at ∷ request .service .len ∷ []
 
 -- the numbers of a request that was read, or what stood there
 abbrev pub fieldsRead : Answer → Request → List ℕ → List ℕ
-fieldsRead Accepted q old = requestFields q
-fieldsRead (Refused e) q old = old
+fieldsRead Accepted request before = requestFields request
+fieldsRead (Refused error) request before = before
 
 -- the ten fields after a request was read
 abbrev pub fieldsAfter : RequestReading → List ℕ → List ℕ
-fieldsAfter r old = fieldsRead (r .answer) (r .request) old
+fieldsAfter reading before = fieldsRead (reading .answer) (reading .request) before
+
+-- ---- An edit of the service
+-- what an edit promises a C caller: the number of its answer, and the promise that histories are made of, whatever ledger stands beside the accounts
+pub record EditCall (before : List ℕ) (edit : Edit) (number : ℕ) (after : List ℕ) : Type 0 where
+  pub answered : number ≡ answerNumber (editAnswer (tableOf before) edit)
+  pub promise : (ledger : List ℕ)
+      → Edited (record { accounts = before; ledger = ledger }) edit (record { answer = editAnswer (tableOf before) edit; ticket = blankTicket; output = [] }) (record { accounts = after; ledger = ledger })
 
 -- ---- A request of the service
--- a grant: no error, and the length of the ticket's record, which stands at the output's start
-abbrev pub grant : Ticket → TicketsAnswer
-grant t = record { error = 0; value = length (recordOf t) }
+-- the answer of a grant: no error, and the length of the ticket's record, which stands at the output's start
+abbrev pub lengthAnswer : Ticket → TicketsAnswer
+lengthAnswer ticket = record { error = 0; value = length (recordOf ticket) }
 
 -- a grant or a refusal, in numbers
-abbrev pub answerOf : Answer → Ticket → TicketsAnswer
-answerOf Accepted t = grant t
-answerOf (Refused e) t = refusal e
+abbrev pub answerIn : Answer → Ticket → TicketsAnswer
+answerIn Accepted ticket = lengthAnswer ticket
+answerIn (Refused error) ticket = errorAnswer error
 
 -- the answer to a request by its decision: no error and the length of the ticket's record, or the refusal's number
 abbrev pub requestAnswer : Decision → TicketsAnswer
-requestAnswer d = answerOf (d .answer) (d .ticket)
+requestAnswer decision = answerIn (decision .answer) (decision .ticket)
 
--- a decision as the plain book's reply, with the output after the call
+-- a decision as a reply, with the output after the call
 abbrev pub replyWith : Decision → List ℕ → Reply
-replyWith d o = record { answer = d .answer; ticket = d .ticket; output = o }
+replyWith decision output = record { answer = decision .answer; ticket = decision .ticket; output = output }
 
--- ---- A descent: its steps, or the refusal
--- no error and the steps, or 41
+-- what a service decides on a request's bytes, at a clock reading and with an output
+abbrev pub decisionOf : Service → List ℕ → ℕ → List ℕ → Decision
+decisionOf before bytes clock output = decideRequest (tableOf (before .accounts)) (ticketsOf (before .ledger)) bytes clock (length output)
+
+-- what a request promises a C caller: its answer in numbers, and the promise that histories are made of
+pub record RequestCall (before : Service) (bytes : List ℕ) (clock : ℕ) (output : List ℕ) (answer : TicketsAnswer) (written : List ℕ) (after : Service) : Type 0 where
+  pub answered : answer ≡ requestAnswer (decisionOf before bytes clock output)
+  pub promise : Requested before bytes clock output (replyWith (decisionOf before bytes clock output) written) after
+
+-- ---- A descent
+-- R7.4: no error and the steps, or 41
 abbrev pub descentAnswer : Descended → TicketsAnswer
-descentAnswer (Steps n) = record { error = 0; value = n }
-descentAnswer (NoDescent e) = refusal e
+descentAnswer (Steps steps) = record { error = 0; value = steps }
+descentAnswer (NoDescent error) = errorAnswer error

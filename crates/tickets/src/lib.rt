@@ -1,5 +1,5 @@
-// The C interface (include/tickets.h): the calls of the ledger (document 01, "Decisions", "The plain book" and "Error numbers"), and the
-// record layer's readers and writer ("Ticket records" and "Requests"), exported for tests of the compiled library.
+// The C interface (include/tickets.h): the calls of the ledger, and the record layer's readers and writer, exported for tests of the compiled
+// library.
 // Only numbers, words and slices of bytes cross the border. A function takes any words, any bytes and any output.
 use definitions::Answer;
 use definitions::Descended;
@@ -12,18 +12,17 @@ use ledger::LedgerWords;
 use rules::AccountWords;
 ghost use mathlib.Core.Path.{_≡_};
 ghost use Prim.Native.Nat.{ℕ, _≤_};
-ghost use lib.ListN.{length, replicate};
+ghost use lib.ListN.{length};
+ghost use Rattle.definitions.specs.Limits.{longestRecord};
 ghost use Rattle.definitions.specs.Errors.{answerNumber};
 ghost use Rattle.definitions.specs.TicketRecords.{readTicket};
 ghost use Rattle.definitions.specs.Requests.{readRequest};
-ghost use Rattle.definitions.specs.Accounts.{tableOf};
-ghost use Rattle.definitions.specs.Edits.{editOf, editAnswer, storedBy};
-ghost use Rattle.definitions.specs.Words.{ticketsOf, noTickets};
+ghost use Rattle.definitions.specs.Edits.{editOf};
+ghost use Rattle.definitions.specs.LedgerWords.{ticketsOf};
 ghost use Rattle.definitions.specs.Totals.{dayTotal};
-ghost use Rattle.definitions.specs.Answers.{decideRequest};
 ghost use Rattle.definitions.specs.Descent.{descent, descended};
-ghost use Rattle.definitions.specs.Promises.{Requested};
-ghost use Rattle.tickets.specs.Calls.{refusal, writtenAnswer, rewriteAnswer, rewriteOutput, kindNumber, requestFields, fieldsAfter, grant, requestAnswer, replyWith, descentAnswer};
+ghost use Rattle.definitions.specs.Promises.{freshService};
+ghost use Rattle.tickets.specs.Calls.{errorAnswer, writtenAnswer, rewriteAnswer, rewriteOutput, kindNumber, requestFields, fieldsAfter, EditCall, lengthAnswer, RequestCall, descentAnswer};
 
 // What a call answers: the error number, 0 where there is none, and a value, 0 beside an error.
 #[repr(C)]
@@ -37,8 +36,8 @@ pub struct TicketsAnswer {
 pub type RequestFields = [u64; 10];
 
 // The answer of a refusal.
-fn refusal(error: Error) -> TicketsAnswer
-    ensures { λ r. ⌜ r ≡ refusal error ⌝ }
+fn error_answer(error: Error) -> TicketsAnswer
+    ensures { λ r. ⌜ r ≡ errorAnswer error ⌝ }
 {
     TicketsAnswer {
         error: record::error_number(error),
@@ -46,9 +45,9 @@ fn refusal(error: Error) -> TicketsAnswer
     }
 }
 
-// The answer of the writer. A record has 31 bytes at most.
+// The answer of the writer.
 fn written_answer(written: Written) -> TicketsAnswer
-    requires { ⌜ ((n : ℕ) → written ≡ Written.Length n → n ≤ 31) ⌝ }
+    requires { ⌜ ((n : ℕ) → written ≡ Written.Length n → n ≤ longestRecord) ⌝ }
     ensures { λ r. ⌜ r ≡ writtenAnswer written ⌝ }
 {
     match written {
@@ -56,7 +55,7 @@ fn written_answer(written: Written) -> TicketsAnswer
             error: 0,
             value: length as u32,
         },
-        Written::Refused(error) => refusal(error),
+        Written::Refused(error) => error_answer(error),
     }
 }
 
@@ -73,7 +72,7 @@ pub extern "C" fn tickets_rewrite(bytes: &[u8], output: &mut [u8]) -> TicketsAns
             let ticket = reading.ticket;
             written_answer(record::write_ticket(ticket, output))
         }
-        Answer::Refused(error) => refusal(error),
+        Answer::Refused(error) => error_answer(error),
     }
 }
 
@@ -101,7 +100,7 @@ fn put_request(fields: &mut RequestFields, request: Request)
     *fields = [
         kind_number(kind),
         request.options as u64,
-        request.pac as u64,
+        request.pac_options as u64,
         request.till as u64,
         tgt.number as u64,
         evidence.number as u64,
@@ -131,11 +130,10 @@ pub extern "C" fn tickets_read_request(bytes: &[u8], fields: &mut RequestFields)
 
 // ---- The service's calls.
 
-// A fresh service, without accounts or tickets.
+// A fresh service, with no account set and no ticket held.
 #[no_mangle]
 pub extern "C" fn tickets_fresh(accounts: &mut AccountWords, ledger: &mut LedgerWords)
-    ensures accounts { λ _. ⌜ now (accounts .exit) ≡ replicate 384 0 ⌝ }
-    ensures ledger { λ _. ⌜ now (ledger .exit) ≡ noTickets ⌝ }
+    ensures { λ _. ⌜ record { accounts = now (accounts .exit); ledger = now (ledger .exit) } ≡ freshService ⌝ }
 {
     ledger::fresh(accounts, ledger);
 }
@@ -151,15 +149,14 @@ pub extern "C" fn tickets_edit(
     receive: u64,
     lifetime: u32,
 ) -> u32
-    ensures answer { λ r. ⌜ r ≡ answerNumber (editAnswer (tableOf (now (accounts .entry))) (editOf number (now (name .entry)) flags send receive lifetime)) ⌝ }
-    ensures accounts { λ _. ⌜ now (accounts .exit) ≡ storedBy (editAnswer (tableOf (now (accounts .entry))) (editOf number (now (name .entry)) flags send receive lifetime)) (now (accounts .entry)) (editOf number (now (name .entry)) flags send receive lifetime) ⌝ }
+    ensures { λ r. ⌜ EditCall (now (accounts .entry)) (editOf number (now (name .entry)) flags send receive lifetime) r (now (accounts .exit)) ⌝ }
 {
     record::answer_number(ledger::edit(accounts, number, name, flags, send, receive, lifetime))
 }
 
 // The answer of a grant: its record's length.
-fn granted(ticket: Ticket) -> TicketsAnswer
-    ensures { λ r. ⌜ r ≡ grant ticket ⌝ }
+fn length_answer(ticket: Ticket) -> TicketsAnswer
+    ensures { λ r. ⌜ r ≡ lengthAnswer ticket ⌝ }
 {
     TicketsAnswer {
         error: 0,
@@ -176,14 +173,13 @@ pub extern "C" fn tickets_request(
     clock: u32,
     output: &mut [u8],
 ) -> TicketsAnswer
-    ensures answer { λ r. ⌜ r ≡ requestAnswer (decideRequest (tableOf (now (accounts .entry))) (ticketsOf (now (ledger .entry))) (now (request .entry)) clock (length (now (output .entry)))) ⌝ }
-    ensures promise { λ _. ⌜ Requested (record { accounts = now (accounts .entry); ledger = now (ledger .entry) }) (now (request .entry)) clock (now (output .entry)) (replyWith (decideRequest (tableOf (now (accounts .entry))) (ticketsOf (now (ledger .entry))) (now (request .entry)) clock (length (now (output .entry)))) (now (output .exit))) (record { accounts = now (accounts .entry); ledger = now (ledger .exit) }) ⌝ }
+    ensures { λ r. ⌜ RequestCall (record { accounts = now (accounts .entry); ledger = now (ledger .entry) }) (now (request .entry)) clock (now (output .entry)) r (now (output .exit)) (record { accounts = now (accounts .exit); ledger = now (ledger .exit) }) ⌝ }
 {
     let decision = ledger::request(accounts, ledger, request, clock, output);
     let answer = decision.answer;
     match answer {
-        Answer::Accepted => granted(decision.ticket),
-        Answer::Refused(error) => refusal(error),
+        Answer::Accepted => length_answer(decision.ticket),
+        Answer::Refused(error) => error_answer(error),
     }
 }
 
@@ -197,7 +193,7 @@ pub extern "C" fn tickets_descent(ledger: &LedgerWords, number: u32) -> TicketsA
             error: 0,
             value: steps,
         },
-        Descended::Refused(error) => refusal(error),
+        Descended::Refused(error) => error_answer(error),
     }
 }
 

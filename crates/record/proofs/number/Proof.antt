@@ -3,7 +3,7 @@ use mathlib.Core.Path.{_≡_, refl, sym}
 use native.Mathlib.Omega.{arith}
 use native.Mathlib.Numerals.{add-one}
 use Rattle.definitions.specs.Fields.{numberAt}
-use Rattle.definitions.proofs.Fields.{room, longer-number}
+use Rattle.definitions.proofs.Fields.{digit-room, longer-number}
 use borrow.Author.Needs.{needs}
 use Rattle.record.proofs.number.Statement.{statement}
 use Rattle.record.proofs.number.Tie as tie
@@ -19,13 +19,13 @@ unfolding numberAt
 loop-holds c = (search needs, refl, search needs)
 
 mul-sum : tie.Need-mul-sum Inv-loop μ-loop
-mul-sum c = omega (arith, room (c .before .loop .sum) (c .before .loop .i) (c .before .loop .inv .2) (omega arith))
+mul-sum c = omega (arith, digit-room (c .before .loop .sum) (c .before .loop .i) (c .before .loop .inv .2) (omega arith))
 
 cast-sum : tie.Need-cast-sum Inv-loop μ-loop
 cast-sum c = omega (arith, c .shared-slice-known .given (c .before .before .before .args .at + c .before .before .loop .i))
 
 add-sum-2 : tie.Need-add-sum-2 Inv-loop μ-loop
-add-sum-2 c = omega (arith, c .shared-slice-known .given (c .before .before .before .args .at + c .before .before .loop .i), room (c .before .before .loop .sum) (c .before .before .loop .i) (c .before .before .loop .inv .2) (omega arith))
+add-sum-2 c = omega (arith, c .shared-slice-known .given (c .before .before .before .args .at + c .before .before .loop .i), digit-room (c .before .before .loop .sum) (c .before .before .loop .i) (c .before .before .loop .inv .2) (omega arith))
 
 loop-again : tie.Need-loop-again Inv-loop μ-loop
 unfolding numberAt

@@ -2,7 +2,7 @@ use mathlib.Core.Path.{_∙_, sym}
 use native.Mathlib.Nat.{add-zero, one-le-pow, zero-lt-suc}
 use denote.Ref.{now}
 use lib.ListN.{length}
-use Rattle.definitions.proofs.Fields.{there}
+use Rattle.definitions.proofs.Fields.{stands-within}
 use Rattle.definitions.specs.Fields.{hasBit}
 use borrow.Author.Needs.{needs}
 use Rattle.record.proofs.take_field.Statement.{statement}
@@ -11,7 +11,7 @@ use Rattle.record.proofs.take_field.Tie as tie
 number-requires : tie.Need-number-requires
 number-requires c κs =
     let a = c .before .before .before .args in
-    (there (hasBit (a .map) (a .bit)) (a .at) (a .width) (length (now (a .bytes))) (sym (c .before .present .ensures) ∙ c .if1 .taken) (c .before .before .before .pre .2), search needs)
+    (stands-within (hasBit (a .map) (a .bit)) (a .at) (a .width) (length (now (a .bytes))) (sym (c .before .present .ensures) ∙ c .if1 .taken) (c .before .before .before .pre .2), search needs)
 
 returns : tie.Need-returns
 returns c =

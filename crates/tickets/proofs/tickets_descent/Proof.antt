@@ -8,7 +8,7 @@ returns : tie.Need-returns
 returns c = ap descentAnswer (sym (c .before .steps .given .1) ∙ c .before .before .before .descent .ensures)
 
 returns-2 : tie.Need-returns-2
-returns-2 c = c .refusal .ensures ∙ ap descentAnswer (sym (c .before .before .error .given .1) ∙ c .before .before .before .before .descent .ensures)
+returns-2 c = c .error-answer .ensures ∙ ap descentAnswer (sym (c .before .before .error .given .1) ∙ c .before .before .before .before .descent .ensures)
 
 pub tickets-descent-spec : {M : Type 1} → statement M
 tickets-descent-spec =

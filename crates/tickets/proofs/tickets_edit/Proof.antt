@@ -1,5 +1,4 @@
 use denote.Ref.{now}
-use mathlib.Core.List.{[]}
 use Rattle.definitions.specs.Edits.{editOf}
 use Rattle.tickets.proofs.Calls.{edit-call}
 use borrow.Author.Needs.{needs}
@@ -11,7 +10,7 @@ returns c =
     let a = c .before .before .before .before .args in
     let e = c .before .edit in
     edit-call (now (a .accounts)) (e .last .0) (editOf (a .number) (now (a .name)) (a .flags) (a .send) (a .receive) (a .lifetime))
-    (e .result) (e .ensures []) (c .answer-number .result) (c .answer-number .ensures)
+    (e .result) (e .ensures) (c .answer-number .result) (c .answer-number .ensures)
 
 pub tickets-edit-spec : {M : Type 1} → statement M
 tickets-edit-spec =

@@ -27,7 +27,7 @@ returns-2 : tie.Need-returns-2
 returns-2 c =
     let r = c .before .before .before .before .read-ticket in
     let told = c .before .before .answer .given .1 in
-    (rw (← r .ensures, told) (c .refusal .ensures), rw (← r .ensures, told))
+    (rw (← r .ensures, told) (c .error-answer .ensures), rw (← r .ensures, told))
 
 pub tickets-rewrite-spec : {M : Type 1} → statement M
 tickets-rewrite-spec =

@@ -12,7 +12,7 @@ returns : tie.Need-returns
 returns c = rw (c .before .written .given .1)
 
 returns-2 : tie.Need-returns-2
-returns-2 c = rw (c .before .before .written2 .given .1) (c .refusal .ensures)
+returns-2 c = rw (c .before .before .written2 .given .1) (c .error-answer .ensures)
 
 pub written-answer-spec : {M : Type 1} → statement M
 written-answer-spec =

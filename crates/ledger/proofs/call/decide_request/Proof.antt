@@ -1,10 +1,10 @@
 use mathlib.Core.Path.{sym, _∙_}
 use denote.Ref.{now}
 use borrow.Author.Tests.{not-true, not-false}
-use Rattle.definitions.specs.Accounts.{tableOf}
-use Rattle.definitions.specs.Words.{ticketsOf}
-use Rattle.definitions.proofs.Words.{tickets-length}
-use Rattle.definitions.proofs.Calls.{request-unreadable, request-short, request-decided}
+use Rattle.definitions.specs.AccountWords.{tableOf}
+use Rattle.definitions.specs.LedgerWords.{ticketsOf}
+use Rattle.definitions.proofs.LedgerWords.{tickets-length}
+use Rattle.ledger.proofs.Lookups.{request-unreadable, request-short, request-decided}
 use borrow.Author.Needs.{needs}
 use Rattle.ledger.proofs.call.decide_request.Statement.{statement}
 use Rattle.ledger.proofs.call.decide_request.Tie as tie
@@ -32,7 +32,7 @@ returns-3 c =
     let r = c .before .before .before .before .before .before .before .before .before .before .before .read-request in
     let y = c .before .before .before .before .before .before .before .before .before .before .is-accepted in
     let n = c .before .count-held in
-    let f = c .before .before .before .before .look-up in
+    let f = c .before .before .before .before .presented-for in
     request-decided (tableOf (now (a .accounts))) (ticketsOf (now (a .ledger))) (now (a .bytes)) (a .clock) (a .room) (r .result) (r .ensures)
     (f .result) (n .result) (c .decide .result) (sym (y .ensures) ∙ not-false (y .result) (c .before .before .before .before .before .before .before .before .before .if1 .left)) (f .ensures)
     (n .ensures .0 ∙ sym (tickets-length (now (a .ledger)))) (c .decide .ensures)

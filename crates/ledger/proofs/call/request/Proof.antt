@@ -1,6 +1,6 @@
 use mathlib.Core.Path.{sym, _∙_}
 use denote.Ref.{now}
-use Rattle.definitions.proofs.Calls.{requested-refused, requested-granted}
+use Rattle.definitions.proofs.Promises.{requested-refused, requested-granted}
 use borrow.Author.Needs.{needs}
 use Rattle.ledger.proofs.call.request.Statement.{statement}
 use Rattle.ledger.proofs.call.request.Tie as tie

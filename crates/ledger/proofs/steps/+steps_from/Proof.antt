@@ -4,9 +4,11 @@ use native.Mathlib.Omega.{arith}
 use mathlib.Core.Path.{sym, ap, _∙_}
 use denote.Ref.{now}
 use borrow.Author.Tests.{not-true, not-false}
-use Rattle.definitions.specs.Words.{ticketsOf}
-use Rattle.definitions.specs.Descent.{backOf, descent, descended, oneMore}
-use Rattle.definitions.proofs.Back.{not-there, is-there, back-stop, back-to, steps-none, steps-here, steps-on, steps-stuck, more-one, one-more-most}
+use Rattle.definitions.specs.LedgerWords.{ticketsOf}
+use Rattle.definitions.specs.Descent.{backOf, descent, descended}
+use Rattle.ledger.specs.BackSteps.{oneMore}
+use Rattle.definitions.proofs.Descent.{not-there, is-there, steps-none, steps-here, steps-on, steps-stuck}
+use Rattle.ledger.proofs.BackSteps.{back-stop, back-to, more-one, one-more-most}
 use Prim.Native.Nat.{ℕ, _<_}
 use borrow.Fn.Kinds.{In}
 use borrow.Fn.PlainCycle.{Measures, is, falls, and}
@@ -15,7 +17,7 @@ use Rattle.ledger.proofs.steps.steps_from.Kinds as steps-from-kinds
 use Rattle.ledger.proofs.steps.+steps_from.Lts-steps_from as steps-from-lts
 use Rattle.ledger.proofs.steps.back_of.Reads as back-of-reads
 use Rattle.ledger.proofs.steps.one_more.Reads as one-more-reads
-use Rattle.ledger.proofs.find_ticket.Reads as find-ticket-reads
+use Rattle.ledger.proofs.search.first_held.Reads as first-held-reads
 use Rattle.ledger.proofs.steps.+steps_from.{statement}
 use Rattle.ledger.proofs.steps.+steps_from.Tie.{close}
 
@@ -33,8 +35,8 @@ steps-from-below t =
 -- what each function that is called asks and tells; the descent itself is asked of a lower number
 abbrev told : ℕ → steps-from-lts.Claims
 told t = (
-  find-ticket-reads.Asked,
-  find-ticket-reads.Learnt,
+  first-held-reads.Asked,
+  first-held-reads.Learnt,
   back-of-reads.Asked,
   back-of-reads.Learnt,
   steps-from-below t,
@@ -46,14 +48,14 @@ told t = (
 returns : (t : ℕ) → steps-from-lts.Need-returns (told t) (steps-from-at t) steps-from.Post
 returns t c =
     let a = c .before .before .before .args in
-    let h = c .before .before .find-ticket in
+    let h = c .before .before .first-held in
     (sym (ap descended (steps-none (ticketsOf (now (a .words))) (a .number) (not-there (ticketsOf (now (a .words))) (a .number) (h .result) (h .ensures) (not-true (h .result .found) (c .if1 .taken))))), search needs)
 
 returns-2 : (t : ℕ) → steps-from-lts.Need-returns-2 (told t) (steps-from-at t) steps-from.Post
 returns-2 t c =
     let a = c .before .before .before .before .before .before .before .args in
     let l = ticketsOf (now (a .words)) in
-    let h = c .before .before .before .before .before .before .find-ticket in
+    let h = c .before .before .before .before .before .before .first-held in
     let f = is-there l (a .number) (h .result) (h .ensures) (not-false (h .result .found) (c .before .before .before .before .if1 .left)) in
     (sym (ap descended (steps-here l (a .number) (h .result .ticket) f (back-stop (backOf (h .result .ticket .origin)) (sym (c .enum-told .given .1) ∙ c .before .before .back-of .ensures)))), search needs)
 
@@ -67,7 +69,7 @@ returns-3 : (t : ℕ) → steps-from-lts.Need-returns-3 (told t) (steps-from-at 
 returns-3 t c =
     let a = c .before .before .before .before .before .before .before .before .before .before .before .args in
     let l = ticketsOf (now (a .words)) in
-    let h = c .before .before .before .before .before .before .before .before .before .before .find-ticket in
+    let h = c .before .before .before .before .before .before .before .before .before .before .first-held in
     let f = is-there l (a .number) (h .result) (h .ensures) (not-false (h .result .found) (c .before .before .before .before .before .before .before .before .if1 .left)) in
     let n = c .before .before .before .before .back .given .0 .0 in
     let g = back-to (backOf (h .result .ticket .origin)) n (sym (c .before .before .before .before .back .given .1) ∙ c .before .before .before .before .before .before .back-of .ensures) in (
@@ -80,7 +82,7 @@ returns-4 : (t : ℕ) → steps-from-lts.Need-returns-4 (told t) (steps-from-at 
 returns-4 t c =
     let a = c .before .before .before .before .before .before .before .before .before .args in
     let l = ticketsOf (now (a .words)) in
-    let h = c .before .before .before .before .before .before .before .before .find-ticket in
+    let h = c .before .before .before .before .before .before .before .before .first-held in
     let f = is-there l (a .number) (h .result) (h .ensures) (not-false (h .result .found) (c .before .before .before .before .before .before .if1 .left)) in
     let n = c .before .before .back .given .0 .0 in
     let g = back-to (backOf (h .result .ticket .origin)) n (sym (c .before .before .back .given .1) ∙ c .before .before .before .before .back-of .ensures) in

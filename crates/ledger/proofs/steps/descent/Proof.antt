@@ -1,7 +1,7 @@
 use mathlib.Core.Path.{sym, ap}
 use denote.Ref.{now}
 use Rattle.definitions.specs.Descent.{descended}
-use Rattle.definitions.proofs.Back.{steps-above}
+use Rattle.definitions.proofs.Descent.{steps-above}
 use borrow.Author.Needs.{needs}
 use Rattle.ledger.proofs.steps.descent.Statement.{statement}
 use Rattle.ledger.proofs.steps.descent.Tie as tie

@@ -1,5 +1,5 @@
 use native.Mathlib.Omega.{arith}
-use Rattle.definitions.specs.Descent.{stepsIn}
+use Rattle.ledger.specs.BackSteps.{stepsIn}
 use mathlib.Core.Path.{ap}
 use borrow.Author.Needs.{needs}
 use Rattle.ledger.proofs.steps.one_more.Statement.{statement}

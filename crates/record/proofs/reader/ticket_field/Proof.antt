@@ -1,8 +1,9 @@
 use denote.Ref.{now}
 use mathlib.Core.List.{[], _∷_}
 use Rattle.definitions.specs.TicketRecords.{ticketLayout}
-use Rattle.definitions.proofs.Fields.{entry-most, field-within, taken}
+use Rattle.definitions.proofs.Fields.{entry-most, field-within}
 use Rattle.definitions.proofs.TicketRecords.{readable-fixed}
+use Rattle.record.proofs.Cursor.{field-taken}
 use borrow.Author.Needs.{needs}
 use Rattle.record.proofs.reader.ticket_field.Statement.{statement}
 use Rattle.record.proofs.reader.ticket_field.Tie as tie
@@ -20,7 +21,7 @@ returns : tie.Need-returns
 returns c =
     let a = c .before .before .args in
     let p = c .before .before .pre in
-    taken ticketLayout (now (a .bytes)) (a .map) (a .bit) (a .at) (c .take-field .result) (p .0) (p .1) (c .take-field .ensures)
+    field-taken ticketLayout (now (a .bytes)) (a .map) (a .bit) (a .at) (c .take-field .result) (p .0) (p .1) (c .take-field .ensures)
 
 pub ticket-field-spec : {M : Type 1} → statement M
 ticket-field-spec =

@@ -1,7 +1,8 @@
 use denote.Ref.{now}
 use mathlib.Core.List.{[], _∷_}
 use Rattle.definitions.specs.Requests.{requestLayout}
-use Rattle.definitions.proofs.Fields.{entry-most, field-within, taken}
+use Rattle.definitions.proofs.Fields.{entry-most, field-within}
+use Rattle.record.proofs.Cursor.{field-taken}
 use borrow.Author.Needs.{needs}
 use Rattle.record.proofs.request.request_field.Statement.{statement}
 use Rattle.record.proofs.request.request_field.Tie as tie
@@ -19,7 +20,7 @@ returns : tie.Need-returns
 returns c =
     let a = c .before .before .args in
     let p = c .before .before .pre in
-    taken requestLayout (now (a .bytes)) (a .map) (a .bit) (a .at) (c .take-field .result) (p .0) (p .1) (c .take-field .ensures)
+    field-taken requestLayout (now (a .bytes)) (a .map) (a .bit) (a .at) (c .take-field .result) (p .0) (p .1) (c .take-field .ensures)
 
 pub request-field-spec : {M : Type 1} → statement M
 request-field-spec =

@@ -1,6 +1,6 @@
 use mathlib.Core.Path.{sym, _∙_}
 use denote.Ref.{now}
-use Rattle.definitions.proofs.Requests.{span-there, span-absent}
+use Rattle.record.proofs.Cursor.{span-there, span-absent}
 use borrow.Author.Needs.{needs}
 use Rattle.record.proofs.request.take_counted.Statement.{statement}
 use Rattle.record.proofs.request.take_counted.Tie as tie

@@ -5,7 +5,7 @@ use native.Mathlib.Numerals.{add-one}
 use lib.ListN.{length, take, length-set}
 use lib.Seq.{sets, length-take-le}
 use denote.Ref.{now}
-use Rattle.definitions.proofs.Output.{copy-step}
+use Rattle.record.proofs.Cursor.{copy-step}
 use borrow.Author.Needs.{needs}
 use Rattle.record.proofs.writer.copy.Statement.{statement}
 use Rattle.record.proofs.writer.copy.Tie as tie

@@ -4,7 +4,8 @@ use native.Mathlib.Omega.{arith}
 use lib.ListN.{length, length-set}
 use lib.Seq.{sets}
 use Rattle.definitions.specs.Fields.{bigEndian}
-use Rattle.definitions.proofs.Output.{put-step, length-bigEndian}
+use Rattle.record.proofs.Cursor.{put-step}
+use Rattle.definitions.proofs.Output.{length-bigEndian}
 use borrow.Author.Needs.{needs}
 use Rattle.record.proofs.writer.put.Statement.{statement}
 use Rattle.record.proofs.writer.put.Tie as tie

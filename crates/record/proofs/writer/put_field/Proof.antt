@@ -1,7 +1,7 @@
 use mathlib.Core.Path.{sym, _∙_}
 use native.Mathlib.Omega.{arith}
 use borrow.Author.Tests.{le-leb}
-use Rattle.definitions.proofs.Output.{field-there, field-absent}
+use Rattle.record.proofs.Cursor.{field-there, field-absent}
 use borrow.Author.Needs.{needs}
 use Rattle.record.proofs.writer.put_field.Statement.{statement}
 use Rattle.record.proofs.writer.put_field.Tie as tie

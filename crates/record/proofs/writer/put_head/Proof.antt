@@ -1,5 +1,5 @@
 use Rattle.definitions.specs.TicketRecords.{headBytes}
-use Rattle.definitions.proofs.Output.{after}
+use Rattle.record.proofs.Cursor.{wrote-then}
 use borrow.Author.Needs.{needs}
 use Rattle.record.proofs.writer.put_head.Statement.{statement}
 use Rattle.record.proofs.writer.put_head.Tie as tie
@@ -7,7 +7,7 @@ use Rattle.record.proofs.writer.put_head.Tie as tie
 returns : tie.Need-returns
 unfolding headBytes
 returns c = (
-  after (after (c .before .before .before .before .before .before .before .before .before .before .before .before .before .put .ensures .0) (c .before .before .before .before .before .before .before .before .put-pair .ensures .0)) (c .before .before .put-pair2 .ensures .0),
+  wrote-then (wrote-then (c .before .before .before .before .before .before .before .before .before .before .before .before .before .put .ensures .0) (c .before .before .before .before .before .before .before .before .put-pair .ensures .0)) (c .before .before .put-pair2 .ensures .0),
   search needs,
 )
 

@@ -1,6 +1,6 @@
 use mathlib.Core.Path.{sym}
 use Rattle.definitions.specs.TicketRecords.{tailBytes}
-use Rattle.definitions.proofs.Output.{after}
+use Rattle.record.proofs.Cursor.{wrote-then}
 use borrow.Author.Needs.{needs}
 use Rattle.record.proofs.writer.put_tail.Statement.{statement}
 use Rattle.record.proofs.writer.put_tail.Tie as tie
@@ -9,7 +9,7 @@ returns : tie.Need-returns
 unfolding tailBytes
 returns c = (
   rw (sym (c .before .before .before .before .before .before .before .before .tgt-of .ensures), sym (c .before .before .before .before .before .before .before .evidence-of .ensures))
-      (after (after (c .before .before .before .before .before .before .before .before .before .before .before .before .put-pair .ensures .0) (c .before .before .before .before .before .before .put-pair2 .ensures .0)) (c .before .before .put-trail .ensures .0)),
+      (wrote-then (wrote-then (c .before .before .before .before .before .before .before .before .before .before .before .before .put-pair .ensures .0) (c .before .before .before .before .before .before .put-pair2 .ensures .0)) (c .before .before .put-trail .ensures .0)),
   search needs,
 )
 

@@ -1,7 +1,7 @@
 use mathlib.Core.Path.{sym, _∙_}
 use native.Mathlib.Omega.{arith}
 use lib.ListN.{length-set}
-use Rattle.definitions.proofs.Output.{trail-there, trail-absent}
+use Rattle.record.proofs.Cursor.{trail-there, trail-absent}
 use borrow.Author.Needs.{needs}
 use Rattle.record.proofs.writer.put_trail.Statement.{statement}
 use Rattle.record.proofs.writer.put_trail.Tie as tie

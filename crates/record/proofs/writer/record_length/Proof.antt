@@ -15,7 +15,7 @@ returns c =
     let m = c .before .before .before .map-for .ensures in
     let f = c .before .before .fixed-length .ensures .0 [] in
     let l = c .trail-length .ensures .0 in
-    let e : c .before .before .fixed-length .result + c .trail-length .result ≡ length (recordOf (a .t)) = ap₂ _+_ f l ∙ rw (m, c .before .eight-at-most .ensures .0) (record-length (a .t) p) in
+    let e : c .before .before .fixed-length .result + c .trail-length .result ≡ length (recordOf (a .t)) = ap₂ _+_ f l ∙ rw (m, c .before .trail-at-most .ensures .0) (record-length (a .t) p) in
     (e, rw e (record-most (a .t) p))
 
 pub record-length-spec : {M : Type 1} → statement M

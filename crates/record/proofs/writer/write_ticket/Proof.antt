@@ -4,7 +4,8 @@ use denote.Ref.{now}
 use borrow.Author.Tests.{not-true, not-false}
 use Rattle.definitions.specs.TicketRecords.{recordAs}
 use Rattle.definitions.proofs.TicketRecords.{well-hops}
-use Rattle.definitions.proofs.Output.{unwritable, short, written, after}
+use Rattle.definitions.proofs.Output.{write-unwritable, write-short}
+use Rattle.record.proofs.Cursor.{wrote-record, wrote-then}
 use borrow.Author.Needs.{needs}
 use Rattle.record.proofs.writer.write_ticket.Statement.{statement}
 use Rattle.record.proofs.writer.write_ticket.Tie as tie
@@ -13,7 +14,7 @@ returns : tie.Need-returns
 returns c =
     let a = c .before .before .before .before .args in
     let m = c .before .before .map-for in
-    unwritable (a .t) (now (a .out)) (m .result) (m .ensures)
+    write-unwritable (a .t) (now (a .out)) (m .result) (m .ensures)
     (sym (c .before .well-formed .ensures) ∙ not-true (c .before .well-formed .result) (c .if1 .taken))
 
 returns-2 : tie.Need-returns-2
@@ -21,7 +22,7 @@ returns-2 c =
     let a = c .before .before .before .before .before .args in
     let m = c .before .before .before .map-for in
     let w = c .before .before .well-formed in
-    short (a .t) (now (a .out)) (m .result) (m .ensures) (sym (w .ensures) ∙ not-false (w .result) (c .before .if1 .left)) (c .if2 .taken)
+    write-short (a .t) (now (a .out)) (m .result) (m .ensures) (sym (w .ensures) ∙ not-false (w .result) (c .before .if1 .left)) (c .if2 .taken)
 
 put-tail-requires : tie.Need-put-tail-requires
 put-tail-requires c κs =
@@ -39,9 +40,9 @@ returns-3 c =
     let m = c .before .before .before .before .before .before .before .before .before .before .before .map-for in
     let w = c .before .before .before .before .before .before .before .before .before .before .well-formed in
     let p = c .before .before .put-tail in
-    written (a .t) (now (a .out)) (p .last .0) (m .result) (p .result) (m .ensures)
+    wrote-record (a .t) (now (a .out)) (p .last .0) (m .result) (p .result) (m .ensures)
     (sym (w .ensures) ∙ not-false (w .result) (c .before .before .before .before .before .before .before .before .before .if1 .left)) (c .before .before .before .before .before .before .before .before .if2 .left) (p .ensures .1)
-    (after (c .before .before .before .before .before .before .put-head .ensures .0) (p .ensures .0))
+    (wrote-then (c .before .before .before .before .before .before .put-head .ensures .0) (p .ensures .0))
 
 pub write-ticket-spec : {M : Type 1} → statement M
 write-ticket-spec =

@@ -4,7 +4,7 @@ use native.Mathlib.Numerals.{add-one}
 use lib.ListN.{length, drop}
 use denote.Ref.{now}
 use Rattle.definitions.specs.TicketRecords.{allZero}
-use Rattle.definitions.proofs.Output.{zero-step, zero-stop, zero-end}
+use Rattle.record.proofs.Cursor.{zero-step, zero-stop, zero-end}
 use borrow.Author.Needs.{needs}
 use Rattle.record.proofs.writer.zero_from.Statement.{statement}
 use Rattle.record.proofs.writer.zero_from.Tie as tie

@@ -1,39 +1,19 @@
-use mathlib.Core.Path.{sym, _∙_}
+use mathlib.Core.Path.{ap, _∙_}
 use denote.Ref.{now}
-use Rattle.definitions.specs.Accounts.{tableOf}
-use Rattle.definitions.proofs.Decisions.{initial-count, initial-refused, initial-granted}
+use Rattle.definitions.specs.AccountWords.{tableOf}
+use Rattle.definitions.specs.Decisions.{userOf, decideInitial}
+use Rattle.definitions.proofs.Decisions.{initial-short}
 use borrow.Author.Needs.{needs}
 use Rattle.rules.proofs.decision.decide_initial.Statement.{statement}
 use Rattle.rules.proofs.decision.decide_initial.Tie as tie
 
-initial-ticket-requires : tie.Need-initial-ticket-requires
-initial-ticket-requires c κs =
-    let a = c .before .before .before .before .before .before .args in
-    let r = c .before .before .check-user in (
-      initial-count (tableOf (now (a .words))) (a .q) (a .m) (a .u) (c .before .before .before .before .before .account-at .result) (c .before .before .before .before .initial-window .result) (r .result) (c .before .before .before .before .before .before .pre .1)
-          (c .before .before .before .before .before .account-at .ensures) (c .before .before .before .before .initial-window .ensures) (rw (c .before .before .before .check-last .ensures) at (r .ensures)) (sym (c .before .is-accepted .ensures) ∙ c .if1 .taken),
-      search needs,
-    )
-
 returns : tie.Need-returns
-returns c =
-    let a = c .before .before .before .before .before .before .before .before .args in
-    let r = c .before .before .before .before .check-user in
-    c .grant .ensures
-    ∙ initial-granted (tableOf (now (a .words))) (a .q) (a .m) (a .u) (c .before .before .before .before .before .before .before .account-at .result) (c .before .before .before .before .before .before .initial-window .result) (r .result) (c .before .before .before .before .before .before .before .before .pre .1)
-    (c .before .before .before .before .before .before .before .account-at .ensures) (c .before .before .before .before .before .before .initial-window .ensures) (rw (c .before .before .before .before .before .check-last .ensures) at (r .ensures)) (c .before .initial-ticket .result)
-    (sym (c .before .before .before .is-accepted .ensures) ∙ c .before .before .if1 .taken) (c .before .initial-ticket .ensures)
+returns c = let a = c .before .before .before .before .args in c .refuse .ensures ∙ initial-short (tableOf (now (a .words))) (a .request) (a .moment) (userOf (tableOf (now (a .words))) (now (a .bytes)) (a .request)) (c .before .if1 .taken)
 
 returns-2 : tie.Need-returns-2
-returns-2 c =
-    let a = c .before .before .before .before .before .before .before .args in
-    let r = c .before .before .before .check-user in
-    c .refuse .ensures
-    ∙ initial-refused (tableOf (now (a .words))) (a .q) (a .m) (a .u) (c .before .before .before .before .before .before .account-at .result) (c .before .before .before .before .before .initial-window .result) (r .result) (c .before .before .before .before .before .before .before .pre .1)
-    (c .before .before .before .before .before .before .account-at .ensures) (c .before .before .before .before .before .initial-window .ensures) (rw (c .before .before .before .before .check-last .ensures) at (r .ensures)) (sym (c .before .before .is-accepted .ensures) ∙ c .before .if1 .left)
+returns-2 c = let a = c .before .before .before .before .before .before .args in c .finish-initial .ensures ∙ ap (decideInitial (tableOf (now (a .words))) (a .request) (a .moment)) (c .before .find-part .ensures .0)
 
 pub decide-initial-spec : {M : Type 1} → statement M
 decide-initial-spec =
     tie.close
-    (tie.spec (λ c κs. search needs) (λ c κs. search needs) (λ c κs. search needs) (λ c κs. search needs)
-    (λ c κs. search needs) initial-ticket-requires (λ c κs. search needs) (λ c κs. search needs) returns returns-2)
+    (tie.spec (λ c κs. search needs) returns (λ c κs. search needs) (λ c κs. search needs) returns-2)

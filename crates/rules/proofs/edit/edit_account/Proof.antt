@@ -1,6 +1,6 @@
 use mathlib.Core.Path.{sym, ap, _∙_}
 use denote.Ref.{now}
-use Rattle.definitions.specs.Accounts.{tableOf}
+use Rattle.definitions.specs.AccountWords.{tableOf}
 use Rattle.definitions.specs.Edits.{editOf}
 use Rattle.definitions.proofs.Checks.{is-accepted}
 use Rattle.definitions.proofs.Edits.{stored-tells, table-edited, stored-words, kept-words}

@@ -1,5 +1,5 @@
 use mathlib.Core.Path.{sym, ap, _∙_}
-use Rattle.definitions.specs.Accounts.{tableOf}
+use Rattle.definitions.specs.AccountWords.{tableOf}
 use denote.Ref.{now}
 use Rattle.definitions.proofs.Edits.{keeps-known, keeps-new}
 use borrow.Author.Needs.{needs}

@@ -1,4 +1,4 @@
-use Rattle.definitions.specs.Accounts.{storeRow}
+use Rattle.definitions.specs.AccountWords.{storeRow}
 use borrow.Author.Needs.{needs}
 use Rattle.rules.proofs.edit.store_row.Statement.{statement}
 use Rattle.rules.proofs.edit.store_row.Tie as tie

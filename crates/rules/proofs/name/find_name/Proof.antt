@@ -2,18 +2,19 @@ use mathlib.Core.Path.{_≡_, refl, sym, _∙_}
 use Prim.Native.Nat.{_≤_, _-_}
 use native.Mathlib.Omega.{arith}
 use denote.Ref.{now}
-use Rattle.definitions.specs.Accounts.{rowsFrom, tableOf}
+use Rattle.definitions.specs.Limits.{accountLimit}
+use Rattle.definitions.specs.AccountWords.{rowsFrom, tableOf}
 use Rattle.definitions.specs.Names.{numberFrom, findName}
-use Rattle.definitions.proofs.Names.{find-here, find-on, find-end}
+use Rattle.rules.proofs.Traces.{find-here, find-on, find-end}
 use borrow.Author.Needs.{needs}
 use Rattle.rules.proofs.name.find_name.Statement.{statement}
 use Rattle.rules.proofs.name.find_name.Tie as tie
 
 abbrev Inv-loop : tie.InvT-loop
-Inv-loop words name t i₀ i = (i ≤ 64) × (findName (tableOf words) name ≡ numberFrom i (rowsFrom words i (64 - i)) name)
+Inv-loop words name t i₀ i = (i ≤ accountLimit) × (findName (tableOf words) name ≡ numberFrom i (rowsFrom words i (accountLimit - i)) name)
 
 abbrev μ-loop : tie.MeasureT-loop
-μ-loop words name t i₀ i = 64 - i
+μ-loop words name t i₀ i = accountLimit - i
 
 loop-holds : tie.Need-loop-holds Inv-loop μ-loop
 loop-holds c = (search needs, refl)
@@ -22,13 +23,13 @@ returns : tie.Need-returns Inv-loop μ-loop
 returns c =
     let a = c .before .before .before .before .before .before .args in
     let l = c .before .before .before .loop in
-    (sym (l .inv .1 ∙ find-here (now (a .words)) (l .i) (now (a .name)) (omega arith) (sym (c .before .matches .ensures) ∙ c .if1 .taken)), search needs)
+    (sym (l .inv .1 ∙ find-here (now (a .words)) (l .i) (now (a .name)) (omega arith) (sym (c .before .matches-name .ensures) ∙ c .if1 .taken)), search needs)
 
 loop-again : tie.Need-loop-again Inv-loop μ-loop
 loop-again c =
     let a = c .before .before .before .before .before .before .args in
     let l = c .before .before .before .loop in
-    (search needs, l .inv .1 ∙ find-on (now (a .words)) (l .i) (now (a .name)) (omega arith) (sym (c .before .matches .ensures) ∙ c .if1 .left))
+    (search needs, l .inv .1 ∙ find-on (now (a .words)) (l .i) (now (a .name)) (omega arith) (sym (c .before .matches-name .ensures) ∙ c .if1 .left))
 
 returns-2 : tie.Need-returns-2 Inv-loop μ-loop
 returns-2 c =

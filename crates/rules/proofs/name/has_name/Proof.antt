@@ -4,7 +4,7 @@ use borrow.Author.Tests.{not-true, not-false, leb-true}
 use lib.ListN.{length}
 use lib.Dec.{leb}
 use Rattle.definitions.proofs.Bools.{and-right}
-use Rattle.definitions.proofs.Names.{named-above, named-length, named-unset, named-agree}
+use Rattle.rules.proofs.Traces.{named-above, named-length, named-unset, named-agree}
 use borrow.Author.Needs.{needs}
 use Rattle.rules.proofs.name.has_name.Statement.{statement}
 use Rattle.rules.proofs.name.has_name.Tie as tie
@@ -23,19 +23,19 @@ returns-3 c =
     sym (named-unset (now (a .words)) (a .n) (a .ignore) (now (a .name)) (c .before .before .before .before .if1 .left) (sym (c .before .before .before .length-at .ensures) ∙ c .before .before .if2 .left)
     (sym (c .before .set-length .ensures) ∙ not-true (c .before .set-length .result) (c .if3 .taken)))
 
-agrees-requires : tie.Need-agrees-requires
-agrees-requires c κs =
+agree-requires : tie.Need-agree-requires
+agree-requires c κs =
     let n = length (now (c .before .before .before .before .before .before .args .name)) in
     (search needs, leb-true n 24 (and-right (leb 1 n) (leb n 24) (sym (c .before .set-length .ensures) ∙ not-false (c .before .set-length .result) (c .if3 .left))))
 
 returns-4 : tie.Need-returns-4
 returns-4 c =
     let a = c .before .before .before .before .before .before .before .args in
-    c .agrees .ensures
+    c .agree .ensures
     ∙ named-agree (now (a .words)) (a .n) (a .ignore) (now (a .name)) (c .before .before .before .before .before .if1 .left) (sym (c .before .before .before .before .length-at .ensures) ∙ c .before .before .before .if2 .left)
     (sym (c .before .before .set-length .ensures) ∙ not-false (c .before .before .set-length .result) (c .before .if3 .left))
 
 pub has-name-spec : {M : Type 1} → statement M
 has-name-spec =
     tie.close
-    (tie.spec returns (λ c κs. search needs) returns-2 (λ c κs. search needs) returns-3 agrees-requires returns-4)
+    (tie.spec returns (λ c κs. search needs) returns-2 (λ c κs. search needs) returns-3 agree-requires returns-4)

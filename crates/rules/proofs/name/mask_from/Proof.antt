@@ -1,4 +1,4 @@
-use Rattle.definitions.proofs.Names.{mask-none, mask-some, mask-all}
+use Rattle.rules.proofs.Traces.{mask-none, mask-some, mask-all}
 use native.Mathlib.Omega.{arith}
 use borrow.Author.Needs.{needs}
 use Rattle.rules.proofs.name.mask_from.Statement.{statement}

@@ -3,8 +3,8 @@ use Prim.Native.Nat.{_+_, _*_}
 use native.Mathlib.Omega.{arith}
 use borrow.Author.Tests.{not-true}
 use denote.Ref.{now}
-use Rattle.definitions.specs.declared.search.Trace.{Trace}
-use Rattle.definitions.proofs.Names.{named-length, named-trace}
+use Rattle.rules.specs.declared.trace.Trace.{Trace}
+use Rattle.rules.proofs.Traces.{named-length, named-trace}
 use borrow.Author.Needs.{needs}
 use Rattle.rules.proofs.name.may_match.Statement.{statement}
 use Rattle.rules.proofs.name.may_match.Tie as tie

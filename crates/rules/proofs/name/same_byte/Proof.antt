@@ -12,7 +12,7 @@ returns c =
     sym (eq-eqb (folded (a .ignore) (a .a)) (folded (a .ignore) (a .b)) (ap (folded (a .ignore)) (c .if1 .taken)))
 
 returns-2 : tie.Need-returns-2
-returns-2 c = ap₂ eqb (c .before .fold .ensures) (c .fold2 .ensures)
+returns-2 c = ap₂ eqb (c .before .folded .ensures) (c .folded2 .ensures)
 
 pub same-byte-spec : {M : Type 1} → statement M
 same-byte-spec = tie.close (tie.spec returns (λ c κs. search needs) (λ c κs. search needs) returns-2)

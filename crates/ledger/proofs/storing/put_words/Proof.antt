@@ -1,0 +1,16 @@
+use native.Mathlib.Nat.{add-assoc}
+use Rattle.definitions.specs.Words.{putRow}
+use borrow.Author.Needs.{needs}
+use Rattle.ledger.proofs.storing.put_words.Statement.{statement}
+use Rattle.ledger.proofs.storing.put_words.Tie as tie
+
+returns : tie.Need-returns
+unfolding putRow
+returns c = simp add-assoc
+
+pub put-words-spec : {M : Type 1} → statement M
+put-words-spec =
+    tie.close
+    (tie.spec (λ c. search needs) (λ c. search needs) (λ c. search needs) (λ c. search needs) (λ c. search needs) (λ
+    c. search needs) (λ c. search needs) (λ c. search needs) (λ c. search needs) (λ c. search needs) (λ c. search
+    needs) returns)

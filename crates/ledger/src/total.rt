@@ -1,0 +1,36 @@
+// The day total (R7.5).
+use crate::words::LedgerWords;
+use crate::words::count_held;
+use definitions::PLACE_SIZE;
+use definitions::TWO_32;
+ghost use mathlib.Core.Path.{_≡_};
+ghost use Prim.Native.Nat.{_<_};
+ghost use Rattle.definitions.specs.Limits.{ticketLimit, two32};
+ghost use Rattle.definitions.specs.LedgerWords.{ticketAt, ticketsOf};
+ghost use Rattle.definitions.specs.Totals.{secondsOf, dayTotal};
+
+// How long the ticket at a place is valid, 0 where its end is not later than its start.
+fn seconds_at(words: &LedgerWords, i: usize) -> u64
+    requires { ⌜ i < ticketLimit ⌝ }
+    ensures exact { λ r. ⌜ r ≡ secondsOf (ticketAt (now (words .entry)) i .window) ⌝ }
+    ensures bounded { λ r. ⌜ r < two32 ⌝ }
+{
+    let word = words[PLACE_SIZE * i + 2];
+    let start = word % TWO_32;
+    let end = word / TWO_32 % TWO_32;
+    if start < end { end - start } else { 0 }
+}
+
+// The day total: how long the tickets held are valid, together.
+pub fn day_total(words: &LedgerWords) -> u64
+    ensures { λ r. ⌜ r ≡ dayTotal (ticketsOf (now (words .entry))) ⌝ }
+{
+    let n = count_held(words);
+    let mut sum: u64 = 0;
+    let mut i = 0;
+    while i < n {
+        sum += seconds_at(words, i);
+        i += 1;
+    }
+    sum
+}

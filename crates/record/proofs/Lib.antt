@@ -1,0 +1,2 @@
+-- Laws of the code of layer 1.
+pub mod Cursor

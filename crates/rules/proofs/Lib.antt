@@ -1,0 +1,2 @@
+-- Laws of the code of layer 2.
+pub mod Traces
