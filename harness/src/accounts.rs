@@ -1,37 +1,31 @@
-//! Accounts, their table and its edits: document 01, section "Accounts", and the checks of an edit
-//! in "Error numbers".
+//! Accounts, their names, their table and its edits: R2.1 to R2.10.
 
-use crate::record::Error;
+use crate::limits::{ACCOUNT_LIMIT, NAME_LIMIT};
+use crate::record::{Error, Principal};
 
-/// "Numbers 0 to 63."
-pub const ACCOUNTS: usize = 64;
-
-/// "A name is 1 to 24 bytes."
-pub const LONGEST_NAME: usize = 24;
-
-/// "Flags: 1 disabled, 2 barred, 4 trusted, 8 service."
+/// R2.2: the flags of an account.
 pub const DISABLED: u8 = 1;
 pub const BARRED: u8 = 2;
 pub const TRUSTED: u8 = 4;
 pub const SERVICE: u8 = 8;
 
-/// The flags that an edit may give; above it, "flags above 15".
-const ALL_FLAGS: u8 = DISABLED | BARRED | TRUSTED | SERVICE;
+/// R2.9: all flags together, the most that an edit may give.
+pub const ALL_FLAGS: u8 = DISABLED | BARRED | TRUSTED | SERVICE;
 
-/// "A name is 1 to 24 bytes"; the bytes after it are 0, and play no part.
+/// An account's name; the bytes after it are 0, and play no part.
 #[derive(Clone, Copy, Debug, PartialEq, Eq)]
 pub struct Name {
-    bytes: [u8; LONGEST_NAME],
+    bytes: [u8; NAME_LIMIT],
     length: u8,
 }
 
 impl Name {
-    /// The name of 1 to 24 bytes, whatever they are; of another length there is none.
+    /// The name of these bytes, whatever they are; there is none of no bytes, or of too many.
     pub fn new(name: &[u8]) -> Option<Name> {
         if name.is_empty() {
             return None;
         }
-        let mut bytes = [0; LONGEST_NAME];
+        let mut bytes = [0; NAME_LIMIT];
         bytes.get_mut(..name.len())?.copy_from_slice(name);
         Some(Name { bytes, length: name.len() as u8 })
     }
@@ -42,7 +36,8 @@ impl Name {
     }
 }
 
-/// "Each has a name, flags, a send set and a receive set, and a lifetime in seconds."
+/// R2.1: what an account has. The sets have a bit for each account (R2.3); the lifetime is in
+/// seconds.
 #[derive(Clone, Copy, Debug, PartialEq, Eq)]
 pub struct Account {
     pub name: Name,
@@ -58,13 +53,14 @@ impl Account {
         self.name.as_bytes()
     }
 
-    /// "Names match with ASCII letter case ignored."
+    /// R2.6: whether the name matches the account's. Other bytes than ASCII letters match themselves
+    /// alone.
     pub fn matches(&self, name: &[u8]) -> bool {
         self.name().eq_ignore_ascii_case(name)
     }
 }
 
-/// "An edit sets one account whole": its number, name, flags, sets and lifetime.
+/// R2.8: an edit, with all that the account has after it.
 #[derive(Clone, Copy, Debug, PartialEq, Eq)]
 pub struct Edit<'a> {
     pub number: u32,
@@ -76,12 +72,12 @@ pub struct Edit<'a> {
 }
 
 impl Edit<'_> {
-    /// The account's number and row; 60 to "edit number above 63, bad name, flags above 15".
+    /// The account's number and row, if all three of number, name and flags are in range: R2.9's 60.
     fn row(&self) -> Result<(usize, Account), Error> {
         let number = usize::try_from(self.number).map_err(|_| Error::Generic)?;
         let flags = u8::try_from(self.flags).map_err(|_| Error::Generic)?;
         let name = Name::new(self.name).ok_or(Error::Generic)?;
-        if number >= ACCOUNTS || flags > ALL_FLAGS || !self.name.iter().all(is_name_byte) {
+        if number >= ACCOUNT_LIMIT || flags > ALL_FLAGS || !self.name.iter().all(is_good_byte) {
             return Err(Error::Generic);
         }
         let Edit { send, receive, lifetime, .. } = *self;
@@ -89,20 +85,20 @@ impl Edit<'_> {
     }
 }
 
-/// "0x21 to 0x7E without 0x40."
-fn is_name_byte(byte: &u8) -> bool {
+/// R2.5: whether a good name may have the byte.
+fn is_good_byte(byte: &u8) -> bool {
     (0x21..=0x7E).contains(byte) && *byte != 0x40
 }
 
-/// "64-bit masks, bit n for account n"; a number above 63 is in no set.
-fn contains(set: u64, number: u8) -> bool {
-    set.checked_shr(number.into()).is_some_and(|rest| rest & 1 == 1)
+/// R2.3: whether a set has an account; one that is no account's number is in no set.
+fn in_set(set: u64, principal: Principal) -> bool {
+    set.checked_shr(principal.into()).is_some_and(|rest| rest & 1 == 1)
 }
 
-/// The accounts by number; `None` is an account never set.
+/// The accounts by number; `None` is one never set (R2.4).
 #[derive(Clone, Debug, PartialEq, Eq)]
 pub struct Table {
-    pub rows: [Option<Account>; ACCOUNTS],
+    pub rows: [Option<Account>; ACCOUNT_LIMIT],
 }
 
 impl Default for Table {
@@ -112,18 +108,18 @@ impl Default for Table {
 }
 
 impl Table {
-    /// "A table, at first with no account set."
+    /// The table of a fresh service, and of a book at first: no account is set.
     pub fn empty() -> Table {
-        Table { rows: [None; ACCOUNTS] }
+        Table { rows: [None; ACCOUNT_LIMIT] }
     }
 
-    /// An edit, with its checks in their order: 60, 12, 8. A refused one changes nothing.
+    /// R2.8, R2.9: an edit, after the checks 60, 12 and 8 in this order. A refused one changes nothing.
     pub fn edit(&mut self, edit: &Edit) -> Result<(), Error> {
         let (number, account) = edit.row()?;
         if self.rows[number].as_ref().is_some_and(|row| row.name() != edit.name) {
             return Err(Error::Policy);
         }
-        if self.matching(edit.name).any(|other| other != number) {
+        if self.name_taken(number, edit.name) {
             return Err(Error::PrincipalNotUnique);
         }
         self.rows[number] = Some(account);
@@ -137,60 +133,70 @@ impl Table {
             .map(|(number, _)| number)
     }
 
-    /// The account of a name: "of two matching accounts the lower number counts".
-    pub fn find(&self, name: &[u8]) -> Option<u8> {
-        self.matching(name).next().map(|number| number as u8)
+    /// R2.7: the account that a name stands for, the lowest of those that match; none if unknown.
+    pub fn find_name(&self, name: &[u8]) -> Option<Principal> {
+        self.matching(name).next().map(|number| number as Principal)
     }
 
-    /// The account of a number, if it is set; a number above 63 counts as never set.
-    pub fn account(&self, number: u8) -> Option<&Account> {
-        self.rows.get(usize::from(number))?.as_ref()
+    /// R2.9: whether an account other than this one has a matching name.
+    fn name_taken(&self, number: usize, name: &[u8]) -> bool {
+        self.matching(name).any(|other| other != number)
     }
 
-    /// Whether a set account has a flag.
-    fn has(&self, number: u8, flag: u8) -> bool {
-        self.account(number).is_some_and(|account| account.flags & flag != 0)
+    /// The account of a number, if it is set; none has a number beyond the limit (R2.4).
+    pub fn account(&self, principal: Principal) -> Option<&Account> {
+        self.rows.get(usize::from(principal))?.as_ref()
     }
 
-    /// Flag 1; "an account never set counts as disabled".
-    pub fn is_disabled(&self, number: u8) -> bool {
-        self.account(number).is_none_or(|account| account.flags & DISABLED != 0)
+    /// Whether an account is set and has a flag.
+    fn has(&self, principal: Principal, flag: u8) -> bool {
+        self.account(principal).is_some_and(|account| account.flags & flag != 0)
     }
 
-    /// Flag 2, DelegationNotAllowed.
-    pub fn is_barred(&self, number: u8) -> bool {
-        self.has(number, BARRED)
+    /// R2.2, R2.4: whether an account has flag 1, or is not set.
+    pub fn is_disabled(&self, principal: Principal) -> bool {
+        self.account(principal).is_none_or(|account| account.flags & DISABLED != 0)
     }
 
-    /// Flag 4, TrustedToAuthenticationForDelegation.
-    pub fn is_trusted(&self, number: u8) -> bool {
-        self.has(number, TRUSTED)
+    /// The opposite.
+    pub fn is_enabled(&self, principal: Principal) -> bool {
+        !self.is_disabled(principal)
     }
 
-    /// Flag 8.
-    pub fn is_service(&self, number: u8) -> bool {
-        self.has(number, SERVICE)
+    /// R2.2: flag 2, DelegationNotAllowed.
+    pub fn is_barred(&self, principal: Principal) -> bool {
+        self.has(principal, BARRED)
     }
 
-    /// Whether an account's send set, ServicesAllowedToSendForwardedTicketsTo, is empty.
-    pub fn sends_to_none(&self, number: u8) -> bool {
-        self.account(number).is_none_or(|account| account.send == 0)
+    /// R2.2: flag 4, TrustedToAuthenticationForDelegation.
+    pub fn is_trusted(&self, principal: Principal) -> bool {
+        self.has(principal, TRUSTED)
     }
 
-    /// Whether an account's send set names another.
-    pub fn sends_to(&self, number: u8, other: u8) -> bool {
-        self.account(number).is_some_and(|account| contains(account.send, other))
+    /// R2.2: flag 8.
+    pub fn is_service(&self, principal: Principal) -> bool {
+        self.has(principal, SERVICE)
     }
 
-    /// Whether an account's receive set, ServicesAllowedToReceiveForwardedTicketsFrom, names
+    /// R2.3: whether an account's send set, ServicesAllowedToSendForwardedTicketsTo, is empty.
+    pub fn sends_to_none(&self, principal: Principal) -> bool {
+        self.account(principal).is_none_or(|account| account.send == 0)
+    }
+
+    /// R2.3: whether an account's send set has another.
+    pub fn sends_to(&self, principal: Principal, other: Principal) -> bool {
+        self.account(principal).is_some_and(|account| in_set(account.send, other))
+    }
+
+    /// R2.3: whether an account's receive set, ServicesAllowedToReceiveForwardedTicketsFrom, has
     /// another.
-    pub fn receives_from(&self, number: u8, other: u8) -> bool {
-        self.account(number).is_some_and(|account| contains(account.receive, other))
+    pub fn receives_from(&self, principal: Principal, other: Principal) -> bool {
+        self.account(principal).is_some_and(|account| in_set(account.receive, other))
     }
 
     /// An account's lifetime in seconds; 0 for one never set, which no decision reaches.
-    pub fn lifetime(&self, number: u8) -> u32 {
-        self.account(number).map_or(0, |account| account.lifetime)
+    pub fn lifetime(&self, principal: Principal) -> u32 {
+        self.account(principal).map_or(0, |account| account.lifetime)
     }
 }
 
@@ -199,7 +205,7 @@ mod tests {
     use super::*;
     use crate::fixtures::edit;
 
-    /// The accounts of the last section.
+    /// R11.1: the accounts of the examples.
     fn morning() -> Table {
         let mut table = Table::empty();
         for edit in [edit(0, "tech", 0, 0, 0), edit(1, "web", 12, 4, 0), edit(2, "store", 8, 0, 0)]
@@ -224,7 +230,7 @@ mod tests {
     }
 
     #[test]
-    fn bad_number_name_and_flags_are_60() {
+    fn r2_9_bad_number_name_and_flags_are_60() {
         let mut table = morning();
         let long = "x".repeat(25);
         let bad = ["", &long, "a b", "a@b", "a\x7F", "a\0", "\u{e9}"];
@@ -240,7 +246,7 @@ mod tests {
     }
 
     #[test]
-    fn the_bounds_of_a_good_edit() {
+    fn r2_5_the_bounds_of_a_good_edit() {
         let mut table = morning();
         assert_eq!(table.edit(&edit(63, &"x".repeat(24), 15, u64::MAX, 1 << 63)), Ok(()));
         assert_eq!(table.edit(&edit(3, "!", 0, 0, 0)), Ok(()));
@@ -250,7 +256,7 @@ mod tests {
     }
 
     #[test]
-    fn points_1_2_and_4_the_first_accepted_edit_fixes_the_name() {
+    fn r2_8_the_first_accepted_edit_fixes_the_name() {
         let mut table = morning();
         assert_eq!(refused(&mut table, &edit(3, "WEB", 0, 0, 0)), 8);
         assert_eq!(table.edit(&edit(3, "other", 0, 0, 0)), Ok(()));
@@ -263,7 +269,7 @@ mod tests {
     }
 
     #[test]
-    fn point_3_a_disabled_account_keeps_its_name_and_the_account_itself_does_not_count() {
+    fn r2_9_a_disabled_account_keeps_its_name_and_may_be_edited_again() {
         let mut table = morning();
         assert_eq!(table.edit(&edit(0, "tech", 1, 0, 0)), Ok(()));
         assert_eq!(refused(&mut table, &edit(3, "TECH", 0, 0, 0)), 8);
@@ -271,7 +277,7 @@ mod tests {
     }
 
     #[test]
-    fn points_6_and_7_names_match_with_letter_case_ignored_alone() {
+    fn r2_6_letter_case_alone_is_overlooked() {
         let mut table = morning();
         assert_eq!(table.edit(&edit(5, "[^Z", 0, 0, 0)), Ok(()));
         let long = [b'x'; 25];
@@ -285,21 +291,21 @@ mod tests {
             (b"", None),
             (&long, None),
         ] {
-            assert_eq!(table.find(name), found);
+            assert_eq!(table.find_name(name), found);
         }
         table.rows[6] = row(b"\xC3\x89`", 0);
-        assert_eq!(table.find(b"\xC3\x89`"), Some(6));
-        assert_eq!(table.find(b"\xE3\x89`"), None);
-        assert_eq!(table.find(b"\xC3\x89@"), None);
+        assert_eq!(table.find_name(b"\xC3\x89`"), Some(6));
+        assert_eq!(table.find_name(b"\xE3\x89`"), None);
+        assert_eq!(table.find_name(b"\xC3\x89@"), None);
     }
 
     #[test]
-    fn points_8_and_9_an_account_never_set_is_disabled_and_has_nothing() {
+    fn r2_4_an_account_never_set_is_disabled_and_has_nothing() {
         assert_eq!(Name::new(b""), None);
         assert_eq!(Name::new(&[b'x'; 25]), None);
         let table = morning();
         for number in [3, 63, 64, 255] {
-            assert!(table.is_disabled(number));
+            assert!(table.is_disabled(number) && !table.is_enabled(number));
             assert!(!table.is_barred(number) && !table.is_trusted(number));
             assert!(!table.is_service(number) && table.sends_to_none(number));
             assert!((0..=255).all(|other| !table.sends_to(number, other)));
@@ -308,10 +314,10 @@ mod tests {
     }
 
     #[test]
-    fn flags_without_a_meaning_change_nothing() {
+    fn r2_2_flags_without_a_meaning_change_nothing() {
         let mut table = morning();
         table.rows[7] = row(b"odd", 0xF0);
-        assert!(!table.is_disabled(7) && !table.is_barred(7));
+        assert!(table.is_enabled(7) && !table.is_barred(7));
         assert!(!table.is_trusted(7) && !table.is_service(7));
         table.rows[7] = row(b"odd", 0xFF);
         assert!(table.is_disabled(7) && table.is_barred(7));
@@ -319,7 +325,7 @@ mod tests {
     }
 
     #[test]
-    fn points_10_and_11_sets() {
+    fn r2_3_sets() {
         let mut table = morning();
         assert_eq!(table.edit(&edit(1, "web", 8, 1 << 63, u64::MAX)), Ok(()));
         assert!(!table.sends_to_none(1));
@@ -329,10 +335,10 @@ mod tests {
     }
 
     #[test]
-    fn point_12_of_two_matching_accounts_the_lower_number_counts_and_an_edit_of_either_is_8() {
+    fn r2_7_the_lowest_match_is_found_and_an_edit_of_any_match_is_8() {
         let mut table = morning();
         table.rows[9] = row(b"WEB", 8);
-        assert_eq!(table.find(b"web"), Some(1));
+        assert_eq!(table.find_name(b"web"), Some(1));
         assert_eq!(refused(&mut table, &edit(1, "web", 0, 0, 0)), 8);
         assert_eq!(refused(&mut table, &edit(9, "WEB", 0, 0, 0)), 8);
         assert_eq!(refused(&mut table, &edit(9, "web", 0, 0, 0)), 12);

@@ -1,31 +1,32 @@
-//! The plain book's notes and the check of lawful descent over them: document 01, sections "The
-//! plain book" and "Lawful descent". The routes are restated here, apart from the decisions.
+//! The plain book's notes (R8.2, R8.4) and the check of lawful descent over them (R9.1 to R9.8). The
+//! routes of R5.7 are stated once more here, apart from the decisions.
 
 use std::fmt::Debug;
 use std::rc::Rc;
 
 use crate::accounts::Table;
-use crate::record::{read_request, Error, Kind, Origin, Ticket};
+use crate::limits::{ACCOUNT_LIMIT, TRAIL_LIMIT};
+use crate::record::{read_request, Error, Kind, Origin, Principal, Ticket};
 use crate::service::Service;
 
-/// Flag 2 of an account: barred.
+/// R2.2: the flag of an account that is barred.
 const BARRED: u8 = 2;
 
-/// The bits that a route of kind 4 looks at: FORWARDABLE on the evidence, CNAME-IN-ADDL-TKT among
-/// the options, resource-based among the PAC options.
+/// R3.4, R4.4: the bits that a hop hangs on, of the evidence's flags, the options and the PAC options.
 const FORWARDABLE: u32 = 1 << 30;
 const CNAME_IN_ADDL_TKT: u32 = 1 << 17;
 const RESOURCE_BASED: u32 = 1 << 28;
 
-/// Eight hops, and the step from the first ticket to its TGT.
-const MOST_STEPS: usize = 9;
+/// R9.2: the most steps back: a hop for each place of the trail, and the step from the first ticket
+/// to its TGT.
+const MOST_STEPS: usize = TRAIL_LIMIT + 1;
 
-/// A granted ticket; "beside it the book notes the request and the table as it stands".
+/// R8.4: a granted ticket with what the book writes down beside it.
 #[derive(Clone, Debug, PartialEq, Eq)]
 pub struct Note {
     pub ticket: Ticket,
     pub request: Vec<u8>,
-    /// The table of the ticket's moment; notes between two edits share one.
+    /// R2.10: the table of the ticket's moment; notes between two edits share one.
     pub table: Rc<Table>,
 }
 
@@ -41,7 +42,7 @@ impl Book {
         Book::default()
     }
 
-    /// Notes a granted ticket with its request and the table of its moment.
+    /// R8.4: notes a granted ticket with its request and the table that it was decided by.
     pub fn note(&mut self, ticket: Ticket, request: &[u8], table: &Table) {
         let table = match self.notes.last() {
             Some(last) if *last.table == *table => Rc::clone(&last.table),
@@ -66,11 +67,11 @@ impl Book {
     }
 }
 
-/// A clause that a ticket breaks, in words.
+/// A rule that a ticket breaks, in words.
 type Broken = &'static str;
 
-/// Checks every clause of "Lawful descent" for every ticket; the answer names the first ticket that
-/// breaks one, and the clause.
+/// Checks R9.1 to R9.8 for every ticket; the answer names the first ticket that breaks one of them,
+/// and what is broken.
 pub fn lawful(notes: &[Note]) -> Result<(), String> {
     let ledger = Ledger::of(notes);
     for note in notes {
@@ -80,8 +81,8 @@ pub fn lawful(notes: &[Note]) -> Result<(), String> {
     Ok(())
 }
 
-/// Checks that "the descent call counts the steps to the initial ticket", for every ticket, with
-/// the answers of this descent call.
+/// R7.4, R9.2: checks for every ticket that this descent call answers how many steps back its initial
+/// ticket is.
 pub fn descents<E: Debug>(
     notes: &[Note],
     descent: impl Fn(u32) -> Result<u32, E>,
@@ -97,7 +98,7 @@ pub fn descents<E: Debug>(
     Ok(())
 }
 
-/// The clause in words, unless it holds.
+/// What is broken, unless the condition holds.
 fn ensure(condition: bool, broken: Broken) -> Result<(), Broken> {
     if condition {
         Ok(())
@@ -106,7 +107,7 @@ fn ensure(condition: bool, broken: Broken) -> Result<(), Broken> {
     }
 }
 
-/// "A number stands for the first ticket in the ledger that has it": its note, by number.
+/// R9.1: by number, the note of the ticket that it stands for.
 struct Ledger<'a>(Vec<Option<&'a Note>>);
 
 impl<'a> Ledger<'a> {
@@ -121,12 +122,11 @@ impl<'a> Ledger<'a> {
     }
 
     /// The first note of a number.
-    fn get(&self, number: u16) -> Option<&'a Note> {
+    fn first_held(&self, number: u16) -> Option<&'a Note> {
         self.0.get(usize::from(number)).copied().flatten()
     }
 
-    /// The ticket and those that its steps back lead to, the initial one last. "Each step's number
-    /// falls", and there are at most nine.
+    /// R9.2: the ticket and those that its steps back lead to, the initial one last.
     fn path(&self, note: &'a Note) -> Result<Vec<&'a Note>, Broken> {
         let mut path = Vec::with_capacity(MOST_STEPS + 1);
         path.push(note);
@@ -134,26 +134,25 @@ impl<'a> Ledger<'a> {
         while let Some(back) = back(ticket) {
             ensure(path.len() <= MOST_STEPS, "more than nine steps to an initial ticket")?;
             ensure(back < ticket.number, "a step's number does not fall")?;
-            let next = self.get(back).ok_or("a step leads to a ticket that is not held")?;
+            let next = self.first_held(back).ok_or("a step leads to a ticket that is not held")?;
             path.push(next);
             ticket = &next.ticket;
         }
         Ok(path)
     }
 
-    /// The steps from the first ticket of a number to the initial one; "it is itself zero steps
-    /// back".
+    /// R9.2: the steps from the first ticket of a number to the initial one, none from that itself.
     fn steps(&self, number: u16) -> Result<u32, Broken> {
-        let note = self.get(number).ok_or("the ticket is not held")?;
+        let note = self.first_held(number).ok_or("the ticket is not held")?;
         self.path(note).map(|path| path.len() as u32 - 1)
     }
 }
 
-/// "Back from a delegated ticket goes to its evidence, from direct or self to its TGT."
+/// R9.1: the number of the ticket one step back; an initial ticket has none.
 fn back(ticket: &Ticket) -> Option<u16> {
     match ticket.origin {
         Origin::Delegated { evidence, .. } => Some(evidence),
-        Origin::Direct { tgt } | Origin::SelfIssued { tgt } => Some(tgt),
+        Origin::Direct { tgt } | Origin::S4U2self { tgt } => Some(tgt),
         Origin::Initial => None,
     }
 }
@@ -163,13 +162,12 @@ fn is_delegated(ticket: &Ticket) -> bool {
     matches!(ticket.origin, Origin::Delegated { .. })
 }
 
-/// "Along the evidence is from a ticket over its evidence numbers to that first ticket": how many
-/// of the path's tickets these are.
+/// R9.4: how many tickets of the path are along the evidence, the first ticket among them.
 fn along(path: &[&Note]) -> usize {
     path.iter().take_while(|note| is_delegated(&note.ticket)).count() + 1
 }
 
-/// The clauses of one ticket, in the order of the section.
+/// R9.2 to R9.8 for one ticket.
 fn check(ledger: &Ledger, note: &Note) -> Result<(), Broken> {
     let ticket = &note.ticket;
     let path = ledger.path(note)?;
@@ -180,9 +178,9 @@ fn check(ledger: &Ledger, note: &Note) -> Result<(), Broken> {
             let tgt = check_tgt(ledger, ticket, tgt)?;
             ensure(tgt.client == ticket.client, "a direct ticket's TGT is another client's")?;
         }
-        Origin::SelfIssued { tgt } => {
+        Origin::S4U2self { tgt } => {
             let tgt = check_tgt(ledger, ticket, tgt)?;
-            ensure(tgt.client == ticket.service, "a self ticket's TGT is not its service's")?;
+            ensure(tgt.client == ticket.service, "an S4U2self ticket's TGT is not its service's")?;
         }
         Origin::Delegated { tgt, .. } => {
             let tgt = check_tgt(ledger, ticket, tgt)?;
@@ -195,60 +193,70 @@ fn check(ledger: &Ledger, note: &Note) -> Result<(), Broken> {
     check_trail(ticket, along)
 }
 
-/// The TGT of a ticket: held, under a lower number, initial, and no earlier in its end.
+/// R9.2, R9.3: the TGT of a ticket: held, under a lower number, initial, and no earlier in its end.
 fn check_tgt<'a>(ledger: &Ledger<'a>, ticket: &Ticket, tgt: u16) -> Result<&'a Ticket, Broken> {
     ensure(tgt < ticket.number, "the TGT's number does not fall")?;
-    let tgt = &ledger.get(tgt).ok_or("the TGT is not held")?.ticket;
+    let tgt = &ledger.first_held(tgt).ok_or("the TGT is not held")?.ticket;
     ensure(tgt.origin == Origin::Initial, "the TGT is not initial")?;
     ensure(ticket.end <= tgt.end, "the end is later than the TGT's")?;
     Ok(tgt)
 }
 
-/// The evidence of a delegated ticket: not initial, for the TGT's client, and no earlier in its
-/// end.
+/// R9.2, R9.3: the evidence of a delegated ticket: not initial, for the TGT's client, and no earlier
+/// in its end.
 fn check_evidence(ticket: &Ticket, tgt: &Ticket, evidence: &Ticket) -> Result<(), Broken> {
     ensure(evidence.origin != Origin::Initial, "the evidence is initial")?;
     ensure(tgt.client == evidence.service, "a hop's TGT is not its evidence's service's")?;
     ensure(ticket.end <= evidence.end, "the end is later than the evidence's")
 }
 
-/// "A hop is permitted if a route of kind 4 held for its request and the table of its moment, both
-/// as the plain book notes them." The request is the one that the ticket answers.
+/// R9.7: by its note, the request of a hop presented these tickets and named the ticket's service, and
+/// it had its option and a route.
 fn check_hop(note: &Note, tgt: &Ticket, evidence: &Ticket) -> Result<(), Broken> {
     let request = read_request(&note.request).map_err(|_| "a hop's request is unreadable")?;
-    let Kind::S4u2proxy { tgt: used, evidence: shown, service } = &request.kind else {
+    let Kind::S4U2proxy { tgt: asked_tgt, evidence: asked_evidence, service: name } = &request.kind
+    else {
         return Err("a hop's request is not of kind 4");
     };
-    ensure(used == tgt && shown == evidence, "a hop's request presents other tickets")?;
-    let service_2 = find(&note.table, service);
-    ensure(service_2 == Some(note.ticket.service), "a hop's request names another service")?;
+    let same = asked_tgt == tgt && asked_evidence == evidence;
+    ensure(same, "a hop's request presents other tickets")?;
+    let service_2 = note.ticket.service;
+    let named = find_name(&note.table, name);
+    ensure(named == Some(service_2), "a hop's request names another service")?;
     ensure(request.options & CNAME_IN_ADDL_TKT != 0, "a hop's request lacks CNAME-IN-ADDL-TKT")?;
-    let route = route(&note.table, used.client, note.ticket.service, request.pac_options, shown);
+    let route = route(&note.table, tgt.client, service_2, request.pac_options, evidence);
     ensure(route, "no route permits a hop")
 }
 
-/// The lowest number of a set account whose name matches.
-fn find(table: &Table, name: &[u8]) -> Option<u8> {
+/// R2.7: the lowest number of a set account whose name matches.
+fn find_name(table: &Table, name: &[u8]) -> Option<Principal> {
     (0..).zip(&table.rows).find_map(|(number, row)| {
         let matches = row.as_ref()?.name().eq_ignore_ascii_case(name);
         matches.then_some(number)
     })
 }
 
-/// Whether a route of kind 4 holds: the classic one by Service 1's send set, or the resource one by
-/// Service 2's receive set.
-fn route(table: &Table, service_1: u8, service_2: u8, pac_options: u32, evidence: &Ticket) -> bool {
-    let account = |number: u8| table.rows.get(usize::from(number))?.as_ref();
-    let member = |set: u64, number: u8| number < 64 && set & (1 << number) != 0;
-    let sends = account(service_1).is_some_and(|account| member(account.send, service_2));
-    let receives = account(service_2).is_some_and(|account| member(account.receive, service_1));
+/// R5.7: whether a route of kind 4 holds: the classic one by Service 1's send set, or the resource one
+/// by Service 2's receive set.
+fn route(
+    table: &Table,
+    service_1: Principal,
+    service_2: Principal,
+    pac_options: u32,
+    evidence: &Ticket,
+) -> bool {
+    let account = |principal: Principal| table.rows.get(usize::from(principal))?.as_ref();
+    let in_set = |set: u64, principal: Principal| {
+        usize::from(principal) < ACCOUNT_LIMIT && set & (1 << principal) != 0
+    };
+    let sends = account(service_1).is_some_and(|account| in_set(account.send, service_2));
+    let receives = account(service_2).is_some_and(|account| in_set(account.receive, service_1));
     let classic = sends && evidence.flags & FORWARDABLE != 0;
     let resource = receives && pac_options & RESOURCE_BASED != 0 && !evidence.barred;
     classic || resource
 }
 
-/// "A client was barred when a ticket was given if flag 2 stands for it in the table of that
-/// ticket's moment": not so for a hop's client and the first ticket of its evidence.
+/// R9.8: when the first ticket was given, a hop's client was not barred.
 fn check_first(ticket: &Ticket, along: &[&Note]) -> Result<(), Broken> {
     let first = along[along.len() - 1];
     let row = first.table.rows.get(usize::from(ticket.client)).and_then(Option::as_ref);
@@ -256,14 +264,14 @@ fn check_first(ticket: &Ticket, along: &[&Note]) -> Result<(), Broken> {
     ensure(!barred, "a hop for a client that was barred when the first ticket was given")
 }
 
-/// One client along the evidence.
+/// R9.5: one client along the evidence.
 fn check_client(ticket: &Ticket, along: &[&Note]) -> Result<(), Broken> {
     let same = along.iter().all(|note| note.ticket.client == ticket.client);
     ensure(same, "another client along the evidence")
 }
 
-/// "The services passed through are, for a delegated ticket, those of the tickets its evidence
-/// numbers lead back to, the first ticket's first; other tickets have none, and no trail."
+/// R9.6: the trail is the services of the tickets behind this one along the evidence, that of the
+/// first ticket first; a ticket that is not delegated has no trail.
 fn check_trail(ticket: &Ticket, along: &[&Note]) -> Result<(), Broken> {
     if !is_delegated(ticket) {
         return ensure(ticket.hops == 0, "a trail on a ticket that is not delegated");
@@ -279,7 +287,7 @@ mod tests {
     use crate::fixtures::{edit, kind_1, kind_2, kind_3, kind_4, Day};
 
     /// The places of the history's tickets.
-    const SELF: usize = 10;
+    const S4U2SELF: usize = 10;
     const HOP_1: usize = 11;
     const HOP_2: usize = 12;
     const HOP_8: usize = 18;
@@ -303,20 +311,20 @@ mod tests {
         day
     }
 
-    /// The TGTs of the services (0 to 8) and of `tech` (9), a self ticket (10) with eight hops over
-    /// both routes (11 to 18), and a direct ticket (19) with one hop by the resource route (20).
+    /// The TGTs of the services (0 to 8) and of `tech` (9), an S4U2self ticket (10) with eight hops
+    /// over both routes (11 to 18), and a direct ticket (19) with one hop by the resource route (20).
     fn history() -> Day {
         let mut day = accounts();
         let tgts = SERVICES.map(|name| day.grant(&kind_1(name), 1000));
         let client = day.grant(&kind_1("tech"), 1000);
         let mut evidence = day.grant(&kind_3(&tgts[0], "tech").till(20000), 1000);
         for (tgt, service) in tgts.iter().zip(&SERVICES[1..]) {
-            let hop = kind_4(tgt, &evidence, service).pac(RESOURCE_BASED);
+            let hop = kind_4(tgt, &evidence, service).pac_options(RESOURCE_BASED);
             evidence = day.grant(&hop, 1000);
         }
         let direct = day.grant(&kind_2(&client, "s2"), 1000);
         day.set(0, "tech", 2, 0, 0);
-        day.grant(&kind_4(&tgts[1], &direct, "s3").pac(RESOURCE_BASED), 1000);
+        day.grant(&kind_4(&tgts[1], &direct, "s3").pac_options(RESOURCE_BASED), 1000);
         for (number, name) in (1..).zip(SERVICES) {
             day.set(number, name, 9, 0, 0);
         }
@@ -348,7 +356,7 @@ mod tests {
     }
 
     #[test]
-    fn chains_of_eight_hops_are_lawful() {
+    fn r9_2_chains_of_eight_hops_are_lawful() {
         let Day { service, book } = history();
         assert_eq!(lawful(&book.notes), Ok(()));
         assert_eq!(descents(&book.notes, |number| service.descent(number)), Ok(()));
@@ -359,21 +367,21 @@ mod tests {
     }
 
     #[test]
-    fn notes_between_two_edits_share_their_table() {
+    fn r8_4_notes_between_two_edits_share_their_table() {
         let notes = history().book.notes;
         assert!(Rc::ptr_eq(&notes[0].table, &notes[DIRECT].table));
         assert!(!Rc::ptr_eq(&notes[DIRECT].table, &notes[RESOURCE_HOP].table));
     }
 
     #[test]
-    fn a_refused_request_is_not_noted() {
+    fn r8_4_a_refused_request_is_not_noted() {
         let mut day = history();
         assert_eq!(day.ask(&kind_1("ghost"), 1000), Err(6));
         assert_eq!(day.book.notes.len(), RESOURCE_HOP + 1);
     }
 
     #[test]
-    fn the_steps_back() {
+    fn r9_2_the_steps_back() {
         let more = damaged(|notes| {
             let mut ninth = notes[HOP_8].clone();
             ninth.ticket.number = 30;
@@ -381,8 +389,8 @@ mod tests {
             notes.push(ninth);
         });
         assert_eq!(more, "ticket 30: more than nine steps to an initial ticket");
-        for tgt in [SELF as u16, HOP_1 as u16] {
-            let rising = damaged_origin(SELF, Origin::SelfIssued { tgt });
+        for tgt in [S4U2SELF as u16, HOP_1 as u16] {
+            let rising = damaged_origin(S4U2SELF, Origin::S4U2self { tgt });
             assert_eq!(rising, "ticket 10: a step's number does not fall");
         }
         let lost = damaged_ticket(0, |ticket| ticket.number = 900);
@@ -390,17 +398,17 @@ mod tests {
     }
 
     #[test]
-    fn the_first_ticket_of_a_number_counts() {
+    fn r9_1_the_first_ticket_of_a_number_counts() {
         let twice = damaged(|notes| {
             let other =
                 Note { ticket: Ticket { number: 0, ..notes[1].ticket }, ..notes[1].clone() };
             notes.insert(0, other);
         });
-        assert_eq!(twice, "ticket 10: a self ticket's TGT is not its service's");
+        assert_eq!(twice, "ticket 10: an S4U2self ticket's TGT is not its service's");
     }
 
     #[test]
-    fn the_tgt() {
+    fn r9_3_the_tgt() {
         let rising = damaged_origin(HOP_1, Origin::Delegated { tgt: 11, evidence: 10 });
         assert_eq!(rising, "ticket 11: the TGT's number does not fall");
         let lost = damaged_ticket(1, |ticket| ticket.number = 900);
@@ -409,21 +417,21 @@ mod tests {
         assert_eq!(not_initial, "ticket 19: the TGT is not initial");
         let other = damaged_origin(DIRECT, Origin::Direct { tgt: 0 });
         assert_eq!(other, "ticket 19: a direct ticket's TGT is another client's");
-        let other = damaged_origin(SELF, Origin::SelfIssued { tgt: 1 });
-        assert_eq!(other, "ticket 10: a self ticket's TGT is not its service's");
+        let other = damaged_origin(S4U2SELF, Origin::S4U2self { tgt: 1 });
+        assert_eq!(other, "ticket 10: an S4U2self ticket's TGT is not its service's");
         let other = damaged_origin(HOP_1, Origin::Delegated { tgt: 1, evidence: 10 });
         assert_eq!(other, "ticket 11: a hop's TGT is not its evidence's service's");
     }
 
     #[test]
-    fn the_evidence_is_not_initial() {
+    fn r9_3_the_evidence_is_not_initial() {
         let initial = damaged_origin(HOP_1, Origin::Delegated { tgt: 0, evidence: 0 });
         assert_eq!(initial, "ticket 11: the evidence is initial");
     }
 
     #[test]
-    fn the_ends() {
-        for at in [SELF, HOP_1, DIRECT] {
+    fn r9_2_the_ends() {
+        for at in [S4U2SELF, HOP_1, DIRECT] {
             let later = damaged_ticket(at, |ticket| ticket.end = 37001);
             assert_eq!(later, format!("ticket {at}: the end is later than the TGT's"));
         }
@@ -432,12 +440,12 @@ mod tests {
     }
 
     #[test]
-    fn the_request_of_a_hop() {
+    fn r9_7_the_request_of_a_hop() {
         let unreadable = damaged(|notes| notes[HOP_1].request.push(0));
         assert_eq!(unreadable, "ticket 11: a hop's request is unreadable");
-        let kind = damaged(|notes| notes[HOP_1].request = notes[SELF].request.clone());
+        let kind = damaged(|notes| notes[HOP_1].request = notes[S4U2SELF].request.clone());
         assert_eq!(kind, "ticket 11: a hop's request is not of kind 4");
-        for (tgt, evidence) in [(1, SELF), (0, HOP_2)] {
+        for (tgt, evidence) in [(1, S4U2SELF), (0, HOP_2)] {
             let tickets = damaged(|notes| {
                 let hop = kind_4(&notes[tgt].ticket, &notes[evidence].ticket, "s2");
                 notes[HOP_1].request = hop.bytes();
@@ -449,7 +457,7 @@ mod tests {
     }
 
     #[test]
-    fn a_hop_needs_its_option_and_a_route_in_the_table_of_its_moment() {
+    fn r9_7_a_hop_needs_its_option_and_a_route_in_its_own_table() {
         // The second byte of the options, which stand after the map and the kind.
         let option = damaged(|notes| notes[HOP_1].request[4] &= !0x02);
         assert_eq!(option, "ticket 11: a hop's request lacks CNAME-IN-ADDL-TKT");
@@ -463,10 +471,10 @@ mod tests {
     }
 
     #[test]
-    fn the_evidence_must_fit_the_route() {
+    fn r9_7_the_evidence_must_fit_the_route() {
         let forward = damaged(|notes| {
-            notes[SELF].ticket.flags = 0;
-            let evidence = notes[SELF].ticket;
+            notes[S4U2SELF].ticket.flags = 0;
+            let evidence = notes[S4U2SELF].ticket;
             let tgt = notes[0].ticket;
             notes[HOP_1].request = kind_4(&tgt, &evidence, "s2").bytes();
         });
@@ -474,37 +482,37 @@ mod tests {
         let marked = damaged(|notes| {
             notes[DIRECT].ticket.barred = true;
             let evidence = notes[DIRECT].ticket;
-            let hop = kind_4(&notes[1].ticket, &evidence, "s3").pac(RESOURCE_BASED);
+            let hop = kind_4(&notes[1].ticket, &evidence, "s3").pac_options(RESOURCE_BASED);
             notes[RESOURCE_HOP].request = hop.bytes();
         });
         assert_eq!(marked, "ticket 20: no route permits a hop");
     }
 
     #[test]
-    fn no_hop_for_a_client_barred_when_the_first_ticket_was_given() {
+    fn r9_8_no_hop_if_the_client_was_barred_at_first() {
         let said = "a hop for a client that was barred when the first ticket was given";
-        for (first, hop) in [(SELF, HOP_1), (DIRECT, RESOURCE_HOP)] {
+        for (first, hop) in [(S4U2SELF, HOP_1), (DIRECT, RESOURCE_HOP)] {
             let barred =
                 damaged(|notes| notes[first].table = edited(&notes[0].table, 0, "tech", 2));
             assert_eq!(barred, format!("ticket {hop}: {said}"));
         }
         // Ticket 18 comes first in the list, and its numbers lead back as before.
         let eighth = damaged(|notes| {
-            notes[SELF].table = edited(&notes[0].table, 0, "tech", 2);
+            notes[S4U2SELF].table = edited(&notes[0].table, 0, "tech", 2);
             notes.swap(HOP_1, HOP_8);
         });
         assert_eq!(eighth, format!("ticket 18: {said}"));
     }
 
     #[test]
-    fn one_client_along_the_evidence() {
+    fn r9_5_one_client_along_the_evidence() {
         let client = damaged_ticket(HOP_8, |ticket| ticket.client = 5);
         assert_eq!(client, "ticket 18: another client along the evidence");
     }
 
     #[test]
-    fn the_trail() {
-        for at in [0, SELF, DIRECT] {
+    fn r9_6_the_trail() {
+        for at in [0, S4U2SELF, DIRECT] {
             let trail = damaged_ticket(at, |ticket| ticket.hops = 1);
             assert_eq!(trail, format!("ticket {at}: a trail on a ticket that is not delegated"));
         }
@@ -518,7 +526,7 @@ mod tests {
     }
 
     #[test]
-    fn the_descent_call() {
+    fn r7_4_the_descent_call() {
         let Day { service, book } = history();
         let one_more = |number| service.descent(number).map(|steps| steps + 1);
         let said = descents(&book.notes, one_more).unwrap_err();

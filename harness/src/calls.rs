@@ -64,19 +64,19 @@ fn fields_of(bytes: &[u8], request: &Request) -> RequestFields {
     let (kind, tgt, evidence, user, service) = match request.kind {
         Kind::Initial { user } => (1, 0, 0, Some(user), None),
         Kind::Direct { tgt, service } => (2, tgt.number, 0, None, Some(service)),
-        Kind::S4u2self { tgt, user } => (3, tgt.number, 0, Some(user), None),
-        Kind::S4u2proxy { tgt, evidence, service } => {
+        Kind::S4U2self { tgt, user } => (3, tgt.number, 0, Some(user), None),
+        Kind::S4U2proxy { tgt, evidence, service } => {
             (4, tgt.number, evidence.number, None, Some(service))
         }
     };
-    let [options, pac, till] = [request.options, request.pac_options, request.till].map(u64::from);
+    let Request { options, pac_options, till, .. } = *request;
     let [user_at, user_length] = place(bytes, user);
     let [service_at, service_length] = place(bytes, service);
     [
         kind,
-        options,
-        pac,
-        till,
+        options.into(),
+        pac_options.into(),
+        till.into(),
         tgt.into(),
         evidence.into(),
         user_at,

@@ -1,17 +1,14 @@
-//! The checks of a request in their order, and the four decisions: document 01, sections
-//! "Decisions" and "Error numbers".
+//! The four decisions (R5.1 to R5.10) and the checks of a request in their order (R6.1 to R6.7).
 
 use crate::accounts::Table;
-use crate::record::{Error, Kind, Origin, Request, Ticket, LONGEST_RECORD, NO_TRAIL};
+use crate::limits::{LAST_SECOND, LONGEST_RECORD, TICKET_LIMIT, TRAIL_LIMIT};
+use crate::record::{Error, Kind, Origin, Principal, Request, Ticket, NO_TRAIL};
 
-/// "The ledger has 512 places."
-pub const PLACES: usize = 512;
-
-/// "Flags issued: FORWARDABLE 0x40000000, INITIAL 0x00400000"; FORWARDABLE is an option too.
+/// R3.4: the flags of a ticket. FORWARDABLE is an option of a request too.
 pub const FORWARDABLE: u32 = 0x4000_0000;
 pub const INITIAL: u32 = 0x0040_0000;
 
-/// "Options: FORWARDABLE, CNAME-IN-ADDL-TKT 0x00020000. PAC option: resource-based 0x10000000."
+/// R4.4: an option of a request, and one of its PAC options.
 pub const CNAME_IN_ADDL_TKT: u32 = 0x0002_0000;
 pub const RESOURCE_BASED: u32 = 0x1000_0000;
 
@@ -19,33 +16,42 @@ pub const RESOURCE_BASED: u32 = 0x1000_0000;
 #[derive(Clone, Copy, Debug)]
 pub struct Moment<'a> {
     pub table: &'a Table,
-    /// "The first ledger ticket of its number", for the presented TGT.
-    pub tgt: Option<&'a Ticket>,
+    /// The first ticket that the ledger holds under the presented TGT's number.
+    pub first_tgt: Option<&'a Ticket>,
     /// The same for the presented evidence.
-    pub evidence: Option<&'a Ticket>,
+    pub first_evidence: Option<&'a Ticket>,
     /// The clock reading.
-    pub now: u32,
-    /// The count of tickets in the ledger.
-    pub held: usize,
+    pub clock: u32,
+    /// How many tickets the ledger holds.
+    pub count: usize,
     /// The output's length.
-    pub output: usize,
+    pub room: usize,
 }
 
 impl Moment<'_> {
-    /// "The number is the count of tickets before it"; a count that does not fit is refused with
-    /// 29.
+    /// R5.10: the number of a new ticket; where the count does not fit, 29 refuses it.
     fn number(&self) -> u16 {
-        self.held as u16
+        self.count as u16
     }
 }
 
-/// Whether the request has the option FORWARDABLE: "if asked".
+/// R4.4: whether the request has the option FORWARDABLE.
 fn asks_forwardable(request: &Request) -> bool {
     request.options & FORWARDABLE != 0
 }
 
-/// Whether a ticket has the flag FORWARDABLE.
-fn is_forwardable(ticket: &Ticket) -> bool {
+/// R4.4: whether the request has the option CNAME-IN-ADDL-TKT.
+pub fn has_cname_in_addl_tkt(request: &Request) -> bool {
+    request.options & CNAME_IN_ADDL_TKT != 0
+}
+
+/// R4.4: whether these PAC options have resource-based.
+fn is_resource_based(pac_options: u32) -> bool {
+    pac_options & RESOURCE_BASED != 0
+}
+
+/// R3.4: whether a ticket has the flag FORWARDABLE.
+pub fn is_forwardable(ticket: &Ticket) -> bool {
     ticket.flags & FORWARDABLE != 0
 }
 
@@ -67,85 +73,86 @@ fn ensure(condition: bool, error: Error) -> Result<(), Error> {
     }
 }
 
-/// "A presented ticket must equal the first ledger ticket of its number in every field": 41.
-fn check_held(presented: &Ticket, held: Option<&Ticket>) -> Result<(), Error> {
-    ensure(held == Some(presented), Error::Modified)
+/// R5.1: 41 unless a presented ticket is, field for field, the first that the ledger holds under its
+/// number.
+fn check_held(presented: &Ticket, first: Option<&Ticket>) -> Result<(), Error> {
+    ensure(first == Some(presented), Error::Modified)
 }
 
-/// "It is valid while start ≤ now < end": 33, 32.
-fn check_valid(ticket: &Ticket, now: u32) -> Result<(), Error> {
-    ensure(ticket.start <= now, Error::TktNyv)?;
-    ensure(now < ticket.end, Error::TktExpired)
+/// R5.2: 33 before the ticket's start, 32 from its end on.
+fn check_valid(ticket: &Ticket, clock: u32) -> Result<(), Error> {
+    ensure(ticket.start <= clock, Error::TktNyv)?;
+    ensure(clock < ticket.end, Error::TktExpired)
 }
 
-/// "Client or user disabled": 18.
-fn check_enabled(table: &Table, client: u8) -> Result<(), Error> {
-    ensure(!table.is_disabled(client), Error::ClientRevoked)
+/// 18 unless the client is enabled.
+fn check_enabled(table: &Table, client: Principal) -> Result<(), Error> {
+    ensure(table.is_enabled(client), Error::ClientRevoked)
 }
 
-/// "TGT 41, 35, 33, 32, 18."
+/// R6.3: the checks of a TGT.
 fn check_tgt(tgt: &Ticket, moment: &Moment) -> Result<(), Error> {
-    check_held(tgt, moment.tgt)?;
+    check_held(tgt, moment.first_tgt)?;
     ensure(tgt.origin == Origin::Initial, Error::NotUs)?;
-    check_valid(tgt, moment.now)?;
+    check_valid(tgt, moment.clock)?;
     check_enabled(moment.table, tgt.client)
 }
 
-/// "Evidence 41, 33, 32, 26, 18."
-fn check_evidence(evidence: &Ticket, service_1: u8, moment: &Moment) -> Result<(), Error> {
-    check_held(evidence, moment.evidence)?;
-    check_valid(evidence, moment.now)?;
+/// R6.4: the checks of evidence.
+fn check_evidence(evidence: &Ticket, service_1: Principal, moment: &Moment) -> Result<(), Error> {
+    check_held(evidence, moment.first_evidence)?;
+    check_valid(evidence, moment.clock)?;
     let has_service = evidence.origin != Origin::Initial;
     ensure(has_service && evidence.service == service_1, Error::ServerNoMatch)?;
     check_enabled(moment.table, evidence.client)
 }
 
-/// The named service; 7 if "unknown, disabled or without flag 8".
-fn named_service(table: &Table, name: &[u8]) -> Result<u8, Error> {
+/// R6.5: the account of a named service, which has to be enabled and a service: 7.
+fn named_service(table: &Table, name: &[u8]) -> Result<Principal, Error> {
     table
-        .find(name)
-        .filter(|&service| !table.is_disabled(service) && table.is_service(service))
+        .find_name(name)
+        .filter(|&service| table.is_enabled(service) && table.is_service(service))
         .ok_or(Error::SPrincipalUnknown)
 }
 
-/// The named user; 6 if unknown, 18 if disabled.
-fn named_user(table: &Table, name: &[u8]) -> Result<u8, Error> {
-    let user = table.find(name).ok_or(Error::CPrincipalUnknown)?;
+/// R6.5: the account of a named user: 6 if there is none, 18 if it is disabled.
+fn named_user(table: &Table, name: &[u8]) -> Result<Principal, Error> {
+    let user = table.find_name(name).ok_or(Error::CPrincipalUnknown)?;
     check_enabled(table, user)?;
     Ok(user)
 }
 
-/// "The classic route needs Service 2 in Service 1's send set and FORWARDABLE evidence."
-pub fn classic_route(table: &Table, service_1: u8, service_2: u8, evidence: &Ticket) -> bool {
+/// R5.7: whether the classic route holds.
+pub fn classic_route(
+    table: &Table,
+    service_1: Principal,
+    service_2: Principal,
+    evidence: &Ticket,
+) -> bool {
     table.sends_to(service_1, service_2) && is_forwardable(evidence)
 }
 
-/// "The resource route needs the resource-based option, Service 1 in Service 2's receive set, and
-/// evidence without the mark."
+/// R5.7: whether the resource route holds.
 pub fn resource_route(
     table: &Table,
-    service_1: u8,
-    service_2: u8,
+    service_1: Principal,
+    service_2: Principal,
     pac_options: u32,
     evidence: &Ticket,
 ) -> bool {
-    pac_options & RESOURCE_BASED != 0
-        && table.receives_from(service_2, service_1)
-        && !evidence.barred
+    is_resource_based(pac_options) && table.receives_from(service_2, service_1) && !evidence.barred
 }
 
-/// "End is the least of now + lifetime (at most 4294967295), the TGT's end, the evidence's end, and
-/// till if wished."
-fn end(request: &Request, now: u32, lifetime: u32, rests_on: &[&Ticket]) -> u32 {
-    let wish = if request.till == 0 { u32::MAX } else { request.till };
-    let own = now.saturating_add(lifetime).min(wish);
+/// R5.9: the end of a new ticket that rests on these. Till 0 is no wish (R4.5).
+fn end(request: &Request, clock: u32, lifetime: u32, rests_on: &[&Ticket]) -> u32 {
+    let wish = if request.till == 0 { LAST_SECOND } else { request.till };
+    let own = clock.saturating_add(lifetime).min(wish);
     rests_on.iter().fold(own, |least, ticket| least.min(ticket.end))
 }
 
-/// "Kind 1: client is the user; INITIAL; mark if the client is barred; FORWARDABLE if asked and no
-/// mark."
+/// R5.4: kind 1, initial.
 fn initial(request: &Request, user: &[u8], moment: &Moment) -> Result<Ticket, Error> {
-    let Moment { table, now, .. } = *moment;
+    let Moment { table, clock, .. } = *moment;
     let client = named_user(table, user)?;
     let barred = table.is_barred(client);
     Ok(Ticket {
@@ -153,8 +160,8 @@ fn initial(request: &Request, user: &[u8], moment: &Moment) -> Result<Ticket, Er
         flags: INITIAL | forwardable_if(asks_forwardable(request) && !barred),
         client,
         service: 0,
-        start: now,
-        end: end(request, now, table.lifetime(client), &[]),
+        start: clock,
+        end: end(request, clock, table.lifetime(client), &[]),
         origin: Origin::Initial,
         trail: NO_TRAIL,
         hops: 0,
@@ -162,15 +169,14 @@ fn initial(request: &Request, user: &[u8], moment: &Moment) -> Result<Ticket, Er
     })
 }
 
-/// "Kind 2: client is the TGT's, service the named one; mark if the TGT has it or the client is
-/// barred now; FORWARDABLE if asked, the TGT has it, and no mark."
+/// R5.5: kind 2, direct.
 fn direct(
     request: &Request,
     tgt: &Ticket,
     service: &[u8],
     moment: &Moment,
 ) -> Result<Ticket, Error> {
-    let Moment { table, now, .. } = *moment;
+    let Moment { table, clock, .. } = *moment;
     check_tgt(tgt, moment)?;
     let service = named_service(table, service)?;
     let barred = tgt.barred || table.is_barred(tgt.client);
@@ -179,8 +185,8 @@ fn direct(
         flags: forwardable_if(asks_forwardable(request) && is_forwardable(tgt) && !barred),
         client: tgt.client,
         service,
-        start: now,
-        end: end(request, now, table.lifetime(service), &[tgt]),
+        start: clock,
+        end: end(request, clock, table.lifetime(service), &[tgt]),
         origin: Origin::Direct { tgt: tgt.number },
         trail: NO_TRAIL,
         hops: 0,
@@ -188,23 +194,21 @@ fn direct(
     })
 }
 
-/// Kind 3's FORWARDABLE where there is no mark: "if Service 1 is trusted; if untrusted with a
-/// non-empty send set, none; if untrusted with an empty one, when asked and the TGT has it".
-fn self_forwardable(request: &Request, tgt: &Ticket, table: &Table) -> bool {
+/// R5.6: whether kind 3 gives FORWARDABLE where there is no mark.
+fn s4u2self_forwardable(request: &Request, tgt: &Ticket, table: &Table) -> bool {
     let service_1 = tgt.client;
     table.is_trusted(service_1)
         || table.sends_to_none(service_1) && asks_forwardable(request) && is_forwardable(tgt)
 }
 
-/// "Kind 3: client is the user, service is Service 1; mark if the user is barred. No FORWARDABLE
-/// with the mark."
+/// R5.6: kind 3, S4U2self.
 fn s4u2self(
     request: &Request,
     tgt: &Ticket,
     user: &[u8],
     moment: &Moment,
 ) -> Result<Ticket, Error> {
-    let Moment { table, now, .. } = *moment;
+    let Moment { table, clock, .. } = *moment;
     check_tgt(tgt, moment)?;
     let service_1 = tgt.client;
     ensure(table.is_service(service_1), Error::SPrincipalUnknown)?;
@@ -212,34 +216,34 @@ fn s4u2self(
     let barred = table.is_barred(client);
     Ok(Ticket {
         number: moment.number(),
-        flags: forwardable_if(!barred && self_forwardable(request, tgt, table)),
+        flags: forwardable_if(!barred && s4u2self_forwardable(request, tgt, table)),
         client,
         service: service_1,
-        start: now,
-        end: end(request, now, table.lifetime(service_1), &[tgt]),
-        origin: Origin::SelfIssued { tgt: tgt.number },
+        start: clock,
+        end: end(request, clock, table.lifetime(service_1), &[tgt]),
+        origin: Origin::S4U2self { tgt: tgt.number },
         trail: NO_TRAIL,
         hops: 0,
         barred,
     })
 }
 
-/// "Option CNAME-IN-ADDL-TKT is required. Either route grants": 13. "Evidence trail already 8": 61.
+/// R6.6: the checks of a hop: 13 unless its option stands and a route holds (R5.7), 61 where the
+/// trail cannot grow.
 fn check_hop(
     request: &Request,
     table: &Table,
-    service_1: u8,
-    service_2: u8,
+    service_1: Principal,
+    service_2: Principal,
     evidence: &Ticket,
 ) -> Result<(), Error> {
     let route = classic_route(table, service_1, service_2, evidence)
         || resource_route(table, service_1, service_2, request.pac_options, evidence);
-    ensure(request.options & CNAME_IN_ADDL_TKT != 0 && route, Error::BadOption)?;
-    ensure(usize::from(evidence.hops) < evidence.trail.len(), Error::FieldTooLong)
+    ensure(has_cname_in_addl_tkt(request) && route, Error::BadOption)?;
+    ensure(usize::from(evidence.hops) < TRAIL_LIMIT, Error::FieldTooLong)
 }
 
-/// "Kind 4: Service 2 is the named service and the ticket's. Client, mark and FORWARDABLE come from
-/// the evidence. Trail: the evidence's, then Service 1 at its end."
+/// R5.8: kind 4, S4U2proxy.
 fn s4u2proxy(
     request: &Request,
     tgt: &Ticket,
@@ -247,7 +251,7 @@ fn s4u2proxy(
     service: &[u8],
     moment: &Moment,
 ) -> Result<Ticket, Error> {
-    let Moment { table, now, .. } = *moment;
+    let Moment { table, clock, .. } = *moment;
     let service_1 = tgt.client;
     check_tgt(tgt, moment)?;
     check_evidence(evidence, service_1, moment)?;
@@ -260,8 +264,8 @@ fn s4u2proxy(
         flags: evidence.flags & FORWARDABLE,
         client: evidence.client,
         service: service_2,
-        start: now,
-        end: end(request, now, table.lifetime(service_2), &[tgt, evidence]),
+        start: clock,
+        end: end(request, clock, table.lifetime(service_2), &[tgt, evidence]),
         origin: Origin::Delegated { tgt: tgt.number, evidence: evidence.number },
         trail,
         hops: evidence.hops + 1,
@@ -269,20 +273,20 @@ fn s4u2proxy(
     })
 }
 
-/// The ticket that a readable request gets, or the first check that fails: 52; those of its kind;
-/// 11 if "end ≤ now"; 29 if "512 tickets or more held".
+/// R6.2: the ticket that a readable request gets, or the number of the first check that fails: the
+/// output's 52, those of its kind, and the last ones (R6.7), 11 and 29.
 pub fn decide(request: &Request, moment: &Moment) -> Result<Ticket, Error> {
-    ensure(moment.output >= LONGEST_RECORD, Error::ResponseTooBig)?;
+    ensure(moment.room >= LONGEST_RECORD, Error::ResponseTooBig)?;
     let ticket = match &request.kind {
         Kind::Initial { user } => initial(request, user, moment),
         Kind::Direct { tgt, service } => direct(request, tgt, service, moment),
-        Kind::S4u2self { tgt, user } => s4u2self(request, tgt, user, moment),
-        Kind::S4u2proxy { tgt, evidence, service } => {
+        Kind::S4U2self { tgt, user } => s4u2self(request, tgt, user, moment),
+        Kind::S4U2proxy { tgt, evidence, service } => {
             s4u2proxy(request, tgt, evidence, service, moment)
         }
     }?;
-    ensure(ticket.end > moment.now, Error::NeverValid)?;
-    ensure(moment.held < PLACES, Error::SvcUnavailable)?;
+    ensure(ticket.end > moment.clock, Error::NeverValid)?;
+    ensure(moment.count < TICKET_LIMIT, Error::SvcUnavailable)?;
     Ok(ticket)
 }
 
@@ -290,13 +294,14 @@ pub fn decide(request: &Request, moment: &Moment) -> Result<Ticket, Error> {
 mod tests {
     use super::*;
     use crate::fixtures::{edit, kind_1, kind_2, kind_3, kind_4, Asked, Day, LIFETIME};
+    use crate::limits::ACCOUNT_LIMIT;
 
     /// The flags and the mark of a ticket.
     fn marks(ticket: Ticket) -> (u32, bool) {
         (ticket.flags, ticket.barred)
     }
 
-    /// The morning with `web`'s TGT at 1000 and the self ticket for `tech` at 1010.
+    /// The morning with `web`'s TGT at 1000 and the S4U2self ticket for `tech` at 1010.
     fn two_tickets() -> (Day, Ticket, Ticket) {
         let mut day = Day::morning();
         let tgt = day.grant(&kind_1("web"), 1000);
@@ -308,7 +313,7 @@ mod tests {
     fn eight_hops() -> (Day, Ticket, Ticket) {
         let (mut day, tgt, mut evidence) = two_tickets();
         day.set(1, "web", 12, 0x6, 0);
-        for hops in 1..=8 {
+        for hops in 1..=TRAIL_LIMIT {
             evidence = day.grant(&kind_4(&tgt, &evidence, "web"), 1010);
             let mut trail = NO_TRAIL;
             trail[..hops].fill(1);
@@ -318,7 +323,7 @@ mod tests {
     }
 
     #[test]
-    fn the_examples_of_the_error_table() {
+    fn r6_8_the_examples_of_the_error_table() {
         let (mut day, tgt, evidence) = two_tickets();
         let altered = Ticket { client: 0, ..tgt };
         for (request, clock, number) in [
@@ -342,26 +347,27 @@ mod tests {
     }
 
     #[test]
-    fn a_trail_of_7_grows_to_8_and_the_ninth_hop_is_61() {
+    fn r6_6_the_eighth_hop_is_granted_and_the_ninth_is_61() {
         let (mut day, tgt, eighth) = eight_hops();
         assert_eq!(day.ask(&kind_4(&tgt, &eighth, "web"), 1010), Err(61));
         assert_eq!(day.service.descent(eighth.number.into()), Ok(9));
     }
 
     #[test]
-    fn point_31_61_wants_a_route_first_and_comes_before_11() {
+    fn r6_6_61_wants_a_route_first_and_comes_before_11() {
         let (mut day, tgt, eighth) = eight_hops();
         let hop = kind_4(&tgt, &eighth, "web");
         assert_eq!(day.ask(&hop.clone().till(5), 1010), Err(61));
         assert_eq!(day.ask(&hop.clone().options(0), 1010), Err(13));
-        assert_eq!(day.ask(&hop.pac(RESOURCE_BASED), 1010), Err(61));
+        assert_eq!(day.ask(&hop.pac_options(RESOURCE_BASED), 1010), Err(61));
         day.set(1, "web", 12, 0x4, 0);
         assert_eq!(day.ask(&kind_4(&tgt, &eighth, "web"), 1010), Err(13));
         assert_eq!(day.ask(&kind_4(&tgt, &eighth, "store"), 1010), Err(61));
     }
 
-    /// One line of the hops: in send set, in receive set, resource-based option, evidence
-    /// FORWARDABLE, evidence mark. The evidence is a direct ticket of `tech`.
+    /// R11.2: a hop where the send set has Service 2, the receive set has Service 1, resource-based is
+    /// asked for, and the evidence is FORWARDABLE or marked, each as given. The evidence is a direct
+    /// ticket of `tech`.
     fn hop([send, receive, resource, forwardable, mark]: [bool; 5]) -> Result<Ticket, u8> {
         let mut day = Day::morning();
         day.set(0, "tech", if mark { 2 } else { 0 }, 0, 0);
@@ -373,7 +379,8 @@ mod tests {
         assert_eq!((is_forwardable(&evidence), evidence.barred), (forwardable, mark));
         let tgt = day.grant(&kind_1("web"), 1000);
         let request = kind_4(&tgt, &evidence, "store");
-        let hop = day.ask(&if resource { request.pac(RESOURCE_BASED) } else { request }, 1000);
+        let hop =
+            day.ask(&if resource { request.pac_options(RESOURCE_BASED) } else { request }, 1000);
         if let Ok(ticket) = hop {
             assert_eq!(marks(ticket), marks(evidence));
             assert_eq!((ticket.client, ticket.service, ticket.hops), (0, 2, 1));
@@ -382,7 +389,7 @@ mod tests {
     }
 
     #[test]
-    fn the_hops_h1_to_h8() {
+    fn r11_2_the_hops_h1_to_h8() {
         const Y: bool = true;
         const N: bool = false;
         for (line, fields, error) in [
@@ -400,9 +407,9 @@ mod tests {
     }
 
     #[test]
-    fn points_16_and_29_the_order_of_the_tgt_checks() {
+    fn r6_3_the_order_of_the_tgt_checks() {
         let (mut day, tgt, evidence) = two_tickets();
-        // A self ticket with the flag INITIAL, and an initial ticket without it.
+        // An S4U2self ticket with the flag INITIAL, and an initial ticket without it.
         let odd = Ticket { number: 70, flags: INITIAL, ..evidence };
         let plain = Ticket { number: 71, flags: 0, ..tgt };
         day.service.ledger.extend([odd, plain]);
@@ -420,7 +427,7 @@ mod tests {
     }
 
     #[test]
-    fn point_30_33_comes_before_32() {
+    fn r5_2_33_comes_before_32() {
         let (mut day, tgt, evidence) = two_tickets();
         let odd_tgt = Ticket { number: 70, start: 3000, end: 2000, ..tgt };
         let odd_evidence = Ticket { number: 71, start: 3000, end: 2000, ..evidence };
@@ -432,7 +439,7 @@ mod tests {
     }
 
     #[test]
-    fn the_order_of_the_evidence_and_name_checks() {
+    fn r6_4_the_order_of_the_evidence_and_name_checks() {
         let (mut day, tgt, evidence) = two_tickets();
         let short = day.grant(&kind_3(&tgt, "tech").till(1100), 1050);
         let other = day.grant(&kind_2(&tgt, "store").till(1100), 1050);
@@ -447,7 +454,7 @@ mod tests {
     }
 
     #[test]
-    fn points_6_20_and_24_unknown_and_disabled_names() {
+    fn r6_5_unknown_and_disabled_names() {
         let (mut day, tgt, evidence) = two_tickets();
         assert_eq!(day.ask(&kind_1(""), 1010), Err(6));
         assert_eq!(day.ask(&kind_2(&tgt, ""), 1010), Err(7));
@@ -462,7 +469,7 @@ mod tests {
     }
 
     #[test]
-    fn point_29_one_record_as_tgt_and_evidence_is_26() {
+    fn r6_4_one_record_as_tgt_and_evidence_is_26() {
         let (mut day, tgt, _) = two_tickets();
         assert_eq!(day.ask(&kind_4(&tgt, &tgt, "store"), 1010), Err(26));
         // Service 1 is account 0, the number that an initial ticket's value has as its service.
@@ -472,7 +479,7 @@ mod tests {
     }
 
     #[test]
-    fn point_25_flag_8_of_service_1() {
+    fn r6_5_flag_8_of_service_1() {
         let (mut day, tgt, evidence) = two_tickets();
         day.set(1, "web", 4, 0x4, 0);
         assert_eq!(day.ask(&kind_3(&tgt, "ghost"), 1010), Err(7));
@@ -482,7 +489,7 @@ mod tests {
     }
 
     #[test]
-    fn point_26_accounts_on_the_trail_are_not_checked() {
+    fn r5_8_accounts_on_the_trail_are_not_checked() {
         let mut day = Day::morning();
         day.set(2, "store", 8, 0x2, 0);
         let web = day.grant(&kind_1("web"), 1000);
@@ -492,12 +499,12 @@ mod tests {
         let third = day.grant(&kind_4(&store, &second, "web"), 1000);
         day.set(2, "store", 9, 0, 0);
         day.set(3, "next", 8, 0, 0x2);
-        let fourth = kind_4(&web, &third, "next").pac(RESOURCE_BASED);
+        let fourth = kind_4(&web, &third, "next").pac_options(RESOURCE_BASED);
         assert_eq!(day.grant(&fourth, 1000).trail[..4], [1, 2, 1, 0]);
     }
 
     #[test]
-    fn point_27_numbers_above_63() {
+    fn r2_4_numbers_above_63() {
         let (mut day, tgt, evidence) = two_tickets();
         let far_tgt = Ticket { number: 70, client: 64, ..tgt };
         let far_client = Ticket { number: 71, client: 255, ..evidence };
@@ -511,28 +518,28 @@ mod tests {
     }
 
     #[test]
-    fn points_21_and_31_options_of_kind_4() {
+    fn r4_4_options_of_kind_4() {
         let (mut day, tgt, evidence) = two_tickets();
         let hop = kind_4(&tgt, &evidence, "store");
         for options in [0, !CNAME_IN_ADDL_TKT, FORWARDABLE] {
             assert_eq!(day.ask(&hop.clone().options(options), 1010), Err(13));
         }
         let plain = day.grant(&hop, 1010);
-        let every = day.grant(&hop.clone().options(u32::MAX).pac(u32::MAX), 1010);
+        let every = day.grant(&hop.clone().options(u32::MAX).pac_options(u32::MAX), 1010);
         assert_eq!(Ticket { number: plain.number, ..every }, plain);
         day.set(1, "web", 12, 0, 0);
         day.set(2, "store", 8, 0, 0x2);
         assert_eq!(day.ask(&hop, 1010), Err(13));
-        assert_eq!(day.ask(&hop.clone().pac(!RESOURCE_BASED), 1010), Err(13));
-        assert_eq!(day.ask(&hop.clone().options(0).pac(RESOURCE_BASED), 1010), Err(13));
-        assert!(day.ask(&hop.pac(RESOURCE_BASED), 1010).is_ok());
-        assert_eq!(day.ask(&kind_1("web").pac(0), 1010), Err(60));
-        assert_eq!(day.ask(&kind_2(&tgt, "store").pac(0), 1010), Err(60));
-        assert_eq!(day.ask(&kind_3(&tgt, "tech").pac(0), 1010), Err(60));
+        assert_eq!(day.ask(&hop.clone().pac_options(!RESOURCE_BASED), 1010), Err(13));
+        assert_eq!(day.ask(&hop.clone().options(0).pac_options(RESOURCE_BASED), 1010), Err(13));
+        assert!(day.ask(&hop.pac_options(RESOURCE_BASED), 1010).is_ok());
+        assert_eq!(day.ask(&kind_1("web").pac_options(0), 1010), Err(60));
+        assert_eq!(day.ask(&kind_2(&tgt, "store").pac_options(0), 1010), Err(60));
+        assert_eq!(day.ask(&kind_3(&tgt, "tech").pac_options(0), 1010), Err(60));
     }
 
     #[test]
-    fn kinds_1_and_2_and_point_33_a_mark_stays_on_an_old_tgt() {
+    fn r5_5_kinds_1_and_2_and_a_mark_that_stays_on_an_old_tgt() {
         let mut day = Day::morning();
         let initial = kind_1("tech").options(FORWARDABLE);
         let open = day.grant(&initial, 1000);
@@ -552,7 +559,7 @@ mod tests {
     }
 
     /// Kind 3 for `tech` after `web` gets these flags and this send set.
-    fn self_marks(flags: u32, send: u64, tgt_asks: bool, asks: bool) -> (u32, bool) {
+    fn s4u2self_marks(flags: u32, send: u64, tgt_asks: bool, asks: bool) -> (u32, bool) {
         let mut day = Day::morning();
         let tgt = day.grant(&kind_1("web").options(forwardable_if(tgt_asks)), 1000);
         day.set(1, "web", flags, send, 0);
@@ -560,15 +567,15 @@ mod tests {
     }
 
     #[test]
-    fn kind_3_and_points_10_33_and_34() {
+    fn r5_6_kind_3() {
         for (tgt_asks, asks) in [(false, false), (false, true), (true, false), (true, true)] {
-            assert_eq!(self_marks(12, 0x4, tgt_asks, asks), (FORWARDABLE, false));
-            assert_eq!(self_marks(12, 0, tgt_asks, asks), (FORWARDABLE, false));
-            assert_eq!(self_marks(8, 0x4, tgt_asks, asks), (0, false));
-            assert_eq!(self_marks(8, 1 << 63, tgt_asks, asks), (0, false));
+            assert_eq!(s4u2self_marks(12, 0x4, tgt_asks, asks), (FORWARDABLE, false));
+            assert_eq!(s4u2self_marks(12, 0, tgt_asks, asks), (FORWARDABLE, false));
+            assert_eq!(s4u2self_marks(8, 0x4, tgt_asks, asks), (0, false));
+            assert_eq!(s4u2self_marks(8, 1 << 63, tgt_asks, asks), (0, false));
             let asked = forwardable_if(tgt_asks && asks);
-            assert_eq!(self_marks(8, 0, tgt_asks, asks), (asked, false));
-            assert_eq!(self_marks(10, 0, tgt_asks, asks), (asked, false));
+            assert_eq!(s4u2self_marks(8, 0, tgt_asks, asks), (asked, false));
+            assert_eq!(s4u2self_marks(10, 0, tgt_asks, asks), (asked, false));
         }
         let (mut day, tgt, _) = two_tickets();
         day.set(0, "tech", 2, 0, 0);
@@ -576,19 +583,19 @@ mod tests {
     }
 
     #[test]
-    fn point_35_accounts_may_be_the_same() {
+    fn r5_3_accounts_may_be_the_same() {
         let mut day = Day::morning();
         day.set(1, "web", 12, 0x2, 0);
         let tgt = day.grant(&kind_1("web"), 1000);
-        let own = day.grant(&kind_3(&tgt, "web"), 1000);
-        assert_eq!((own.client, own.service), (1, 1));
-        let hop = day.grant(&kind_4(&tgt, &own, "web"), 1000);
+        let evidence = day.grant(&kind_3(&tgt, "web"), 1000);
+        assert_eq!((evidence.client, evidence.service), (1, 1));
+        let hop = day.grant(&kind_4(&tgt, &evidence, "web"), 1000);
         assert_eq!((hop.client, hop.service, hop.trail[0]), (1, 1, 1));
         assert_eq!(day.grant(&kind_2(&tgt, "web"), 1000).service, 1);
     }
 
     #[test]
-    fn point_36_one_bit_of_the_evidence_and_the_classic_route_overlooks_the_mark() {
+    fn r5_7_one_bit_of_the_evidence_and_the_classic_route_overlooks_the_mark() {
         let (mut day, tgt, evidence) = two_tickets();
         let odd = Ticket { number: 70, flags: u32::MAX, barred: true, ..evidence };
         let none = Ticket { number: 71, flags: !FORWARDABLE, ..evidence };
@@ -596,12 +603,12 @@ mod tests {
         assert_eq!(marks(day.grant(&kind_4(&tgt, &odd, "store"), 1010)), (FORWARDABLE, true));
         assert_eq!(day.ask(&kind_4(&tgt, &none, "store"), 1010), Err(13));
         day.set(2, "store", 8, 0, 0x2);
-        let resource = kind_4(&tgt, &none, "store").pac(RESOURCE_BASED);
+        let resource = kind_4(&tgt, &none, "store").pac_options(RESOURCE_BASED);
         assert_eq!(marks(day.grant(&resource, 1010)), (0, false));
     }
 
     #[test]
-    fn point_37_a_client_barred_today_hops_on_old_evidence() {
+    fn r5_8_a_client_barred_later_hops_on_old_evidence() {
         let (mut day, tgt, evidence) = two_tickets();
         day.set(0, "tech", 2, 0, 0);
         let hop = day.grant(&kind_4(&tgt, &evidence, "store"), 1010);
@@ -609,12 +616,12 @@ mod tests {
     }
 
     #[test]
-    fn the_routes_by_themselves() {
+    fn r5_7_the_routes_by_themselves() {
         let (day, _, evidence) = two_tickets();
         let table = &day.service.table;
         assert!(classic_route(table, 1, 2, &evidence));
         assert!(!classic_route(table, 2, 1, &evidence));
-        assert!(!classic_route(table, 1, 64 + 2, &evidence));
+        assert!(!classic_route(table, 1, ACCOUNT_LIMIT as Principal + 2, &evidence));
         assert!(!resource_route(table, 1, 2, RESOURCE_BASED, &evidence));
     }
 
@@ -624,12 +631,12 @@ mod tests {
     }
 
     #[test]
-    fn point_38_lifetimes_and_till() {
+    fn r5_9_lifetimes_and_till() {
         let mut day = Day::morning();
-        let far = u32::MAX - 10;
+        let far = LAST_SECOND - 10;
         day.set_lifetime(1, "web", 12, u32::MAX);
         let tgt = day.grant(&kind_1("web"), far);
-        assert_eq!(tgt.end, u32::MAX);
+        assert_eq!(tgt.end, LAST_SECOND);
         day.set_lifetime(1, "web", 12, 4);
         day.set_lifetime(2, "store", 8, 7);
         assert_eq!(end_of(&mut day, &kind_1("web"), far), Ok(far + 4));
@@ -641,11 +648,11 @@ mod tests {
         day.set_lifetime(1, "web", 12, 0);
         assert_eq!(end_of(&mut day, &kind_3(&tgt, "tech"), far), Err(11));
         assert_eq!(end_of(&mut day, &kind_1("web"), far), Err(11));
-        assert_eq!(end_of(&mut day, &kind_1("tech"), u32::MAX), Err(11));
+        assert_eq!(end_of(&mut day, &kind_1("tech"), LAST_SECOND), Err(11));
     }
 
     #[test]
-    fn the_end_is_no_later_than_those_of_the_tgt_and_the_evidence() {
+    fn r5_9_the_end_is_no_later_than_those_of_the_tgt_and_the_evidence() {
         let mut day = Day::morning();
         let long = day.grant(&kind_1("web"), 1000);
         let short = day.grant(&kind_1("web").till(3000), 1000);

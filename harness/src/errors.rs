@@ -1,48 +1,47 @@
-//! The error numbers: document 01, section "Error numbers".
+//! The error numbers: R6.8.
 
-/// Every refusal, by its name in RFC 4120; "every refusal returns its number and no ticket".
+/// Every refusal, by its name in RFC 4120.
 #[derive(Clone, Copy, Debug, PartialEq, Eq)]
 #[repr(u8)]
 pub enum Error {
-    /// KDC_ERR_C_PRINCIPAL_UNKNOWN: user name unknown.
+    /// KDC_ERR_C_PRINCIPAL_UNKNOWN: no account has the user's name (R6.5).
     CPrincipalUnknown = 6,
-    /// KDC_ERR_S_PRINCIPAL_UNKNOWN: service unknown, disabled or without flag 8; kind 3 by Service
-    /// 1 without flag 8.
+    /// KDC_ERR_S_PRINCIPAL_UNKNOWN: the named service, or Service 1 in S4U2self, is none (R6.5).
     SPrincipalUnknown = 7,
-    /// KDC_ERR_PRINCIPAL_NOT_UNIQUE: edit: another account's name matches.
+    /// KDC_ERR_PRINCIPAL_NOT_UNIQUE: an edit's name is taken (R2.9).
     PrincipalNotUnique = 8,
-    /// KDC_ERR_NEVER_VALID: end ≤ now.
+    /// KDC_ERR_NEVER_VALID: the ticket would have ended already (R6.7).
     NeverValid = 11,
-    /// KDC_ERR_POLICY: edit: name differs from the fixed one.
+    /// KDC_ERR_POLICY: an edit would rename the account (R2.9).
     Policy = 12,
-    /// KDC_ERR_BADOPTION: no route, or option missing.
+    /// KDC_ERR_BADOPTION: a hop without its option, or without a route (R6.6).
     BadOption = 13,
-    /// KDC_ERR_CLIENT_REVOKED: client or user disabled.
+    /// KDC_ERR_CLIENT_REVOKED: a disabled client or user (R6.3, R6.4, R6.5).
     ClientRevoked = 18,
-    /// KDC_ERR_SERVER_NOMATCH: evidence has no service, or another than Service 1.
+    /// KDC_ERR_SERVER_NOMATCH: the evidence is not for Service 1 (R6.4).
     ServerNoMatch = 26,
-    /// KDC_ERR_SVC_UNAVAILABLE: 512 tickets or more held.
+    /// KDC_ERR_SVC_UNAVAILABLE: no place is left in the ledger (R6.7).
     SvcUnavailable = 29,
-    /// KRB_AP_ERR_TKT_EXPIRED: now ≥ end.
+    /// KRB_AP_ERR_TKT_EXPIRED: a presented ticket has ended (R6.3, R6.4).
     TktExpired = 32,
-    /// KRB_AP_ERR_TKT_NYV: now < start.
+    /// KRB_AP_ERR_TKT_NYV: a presented ticket has not begun (R6.3, R6.4).
     TktNyv = 33,
-    /// KRB_AP_ERR_NOT_US: TGT is not initial.
+    /// KRB_AP_ERR_NOT_US: the TGT is of another origin than initial (R6.3).
     NotUs = 35,
-    /// KRB_AP_ERR_MODIFIED: no such ledger ticket, or unequal; descent: a number not held, or a
-    /// back number that is absent or doesn't fall.
+    /// KRB_AP_ERR_MODIFIED: a presented ticket is not the ledger's (R6.3, R6.4); a descent that does
+    /// not arrive (R7.4).
     Modified = 41,
-    /// KRB_ERR_RESPONSE_TOO_BIG: output under 31 bytes.
+    /// KRB_ERR_RESPONSE_TOO_BIG: the output is shorter than the longest record (R3.7).
     ResponseTooBig = 52,
-    /// KRB_ERR_GENERIC: request unreadable, map not of its kind, kind not 1 to 4; a ticket that no
-    /// bytes give; edit number above 63, bad name, flags above 15.
+    /// KRB_ERR_GENERIC: unreadable bytes (R3.5, R4.3), a ticket value without a record (R3.6), or an
+    /// edit whose number, name or flags are out of range (R2.9).
     Generic = 60,
-    /// KRB_ERR_FIELD_TOOLONG: evidence trail already 8.
+    /// KRB_ERR_FIELD_TOOLONG: the evidence's trail is full (R6.6).
     FieldTooLong = 61,
 }
 
 impl Error {
-    /// The number of the table.
+    /// The number that a refusal returns.
     pub fn number(self) -> u8 {
         self as u8
     }

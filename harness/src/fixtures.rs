@@ -1,10 +1,10 @@
-//! Requests, accounts and days for the tests of this crate: document 01, sections "Requests" and
-//! "Hops and a morning".
+//! Requests (R4.1), accounts (R11.1) and days for the tests of this crate.
 
 use crate::accounts::Edit;
 use crate::book::Book;
 use crate::decisions::CNAME_IN_ADDL_TKT;
-use crate::record::{write_ticket, Ticket, LONGEST_RECORD};
+use crate::limits::LONGEST_RECORD;
+use crate::record::{write_ticket, Ticket};
 use crate::service::Service;
 
 /// The lifetime of the morning's accounts.
@@ -54,7 +54,7 @@ impl Asked {
     }
 
     /// The request with these PAC options.
-    pub fn pac(self, pac_options: u32) -> Asked {
+    pub fn pac_options(self, pac_options: u32) -> Asked {
         Asked { pac_options: Some(pac_options), ..self }
     }
 
@@ -63,7 +63,7 @@ impl Asked {
         Asked { till: Some(till), ..self }
     }
 
-    /// "A 16-bit map, then" the fields that stand.
+    /// R4.1: the request's bytes.
     pub fn bytes(&self) -> Vec<u8> {
         let mut map = 1u16;
         let mut fields = vec![self.kind];
@@ -107,7 +107,7 @@ impl Day {
         Day { service, book: Book::new() }
     }
 
-    /// A fresh service with the accounts of the last section.
+    /// R11.1: a fresh service with the accounts of the examples.
     pub fn morning() -> Day {
         let mut day = Day::on(Service::fresh());
         day.set(0, "tech", 0, 0, 0);
@@ -128,7 +128,7 @@ impl Day {
     }
 
     /// A request by its bytes: the ticket, or the error number. Looks whether the service and the
-    /// output are as the paper says after it.
+    /// output are as they have to be after it (R6.1, R7.3).
     pub fn ask_bytes(&mut self, request: &[u8], clock: u32) -> Result<Ticket, u8> {
         let before = self.service.clone();
         let mut output = [0xEE; LONGEST_RECORD + 9];

@@ -1,5 +1,5 @@
-//! Histories: lists of calls, with the words that the first of them meets. They are values, so that
-//! they can be made from a seed, replayed on both sides, shortened and printed.
+//! Histories: lists of calls (R8.1), with the words that the first of them meets. They are values, so
+//! that they can be made from a seed, replayed on both sides, shortened and printed.
 
 mod draft;
 mod generator;
@@ -11,8 +11,9 @@ mod tally;
 
 use crate::accounts::Edit;
 use crate::library::Service;
+use crate::limits::{ACCOUNT_LIMIT, PLACE_SIZE, ROW_SIZE, TICKET_LIMIT};
 use crate::record::read_request;
-use crate::words::{place_at, row_at, PLACE, ROW};
+use crate::words::{place_at, row_at};
 use std::fmt;
 
 pub use generator::generate;
@@ -73,7 +74,7 @@ impl fmt::Display for Call {
             Call::Request { request, clock, output } => {
                 write!(f, "request at {clock}, output of {output}: {}", Hex(request))?;
                 match read_request(request) {
-                    Ok(read) => write!(f, "\n       {}", draft::Readable(&read)),
+                    Ok(read) => write!(f, "\n       {}", draft::RequestText(&read)),
                     Err(_) => write!(f, "\n       unreadable"),
                 }
             }
@@ -96,11 +97,11 @@ impl fmt::Display for History {
 /// Prints the rows and places whose words are not all 0.
 fn print_words(f: &mut fmt::Formatter, words: &Service) -> fmt::Result {
     writeln!(f, "  from words, 0 but for: count {:#x}", words.ledger[0])?;
-    for number in 0..words.accounts.len() / ROW {
-        print_some(f, "account", number, &words.accounts[row_at(number)..][..ROW])?;
+    for number in 0..ACCOUNT_LIMIT {
+        print_some(f, "account", number, &words.accounts[row_at(number)..][..ROW_SIZE])?;
     }
-    for place in 0..words.ledger.len() / PLACE {
-        print_some(f, "place", place, &words.ledger[place_at(place)..][..PLACE])?;
+    for place in 0..TICKET_LIMIT {
+        print_some(f, "place", place, &words.ledger[place_at(place)..][..PLACE_SIZE])?;
     }
     Ok(())
 }

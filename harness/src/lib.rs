@@ -1,4 +1,5 @@
-//! A second implementation of document 01, section by section, to check the proved service against.
+//! A second implementation, written from the rules (docs/RULES.md), to check the proved service
+//! against; and the lists of calls that are made of both.
 
 pub mod accounts;
 pub mod book;
@@ -11,6 +12,7 @@ mod fixtures;
 pub mod histories;
 #[cfg(feature = "library")]
 pub mod library;
+pub mod limits;
 pub mod random;
 pub mod record;
 pub mod samples;

@@ -2,7 +2,8 @@
 
 use crate::accounts::Edit;
 use crate::calls::{Answer, RequestFields};
-use crate::words::{AccountWords, LedgerWords, ACCOUNT_WORDS, LEDGER_WORDS};
+use crate::limits::{ACCOUNTS_SIZE, LEDGER_SIZE};
+use crate::words::{AccountWords, LedgerWords};
 
 extern "C" {
     fn tickets_fresh(accounts: *mut u64, ledger: *mut u64);
@@ -105,7 +106,7 @@ pub struct Service {
 impl Service {
     /// A service whose words are all this one.
     pub fn filled(word: u64) -> Self {
-        Self { accounts: [word; ACCOUNT_WORDS], ledger: [word; LEDGER_WORDS] }
+        Self { accounts: [word; ACCOUNTS_SIZE], ledger: [word; LEDGER_SIZE] }
     }
 
     /// A fresh service, which the call makes of words that are not 0.

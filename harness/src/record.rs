@@ -1,56 +1,56 @@
-//! Tickets with their reader and writer, and the reader of requests: document 01, sections "Ticket
-//! records" and "Requests".
+//! Tickets with their reader and writer (R3.1 to R3.8), and the reader of requests (R4.1 to R4.6).
 
 pub use crate::errors::Error;
+use crate::limits::{LONGEST_RECORD, TRAIL_LIMIT};
 
-/// The fewest bytes that the writer takes as output: those of the longest issued record.
-pub const LONGEST_RECORD: usize = 31;
+/// The number of an account as a ticket has it: one byte, which no account need have.
+pub type Principal = u8;
 
-/// The account numbers of a trail, and zeros after them.
-pub type Trail = [u8; 8];
+/// The accounts of a trail, and zeros after them.
+pub type Trail = [Principal; TRAIL_LIMIT];
 
 /// The trail of a ticket that has none.
-pub const NO_TRAIL: Trail = [0; 8];
+pub const NO_TRAIL: Trail = [0; TRAIL_LIMIT];
 
-/// The ticket maps of the four origins; `BARRED` may be added to each.
+/// R3.3: the maps of the four origins, and the bit of the barred mark, which each of them may have.
 const INITIAL: u16 = 0x0037;
 const DIRECT: u16 = 0x007F;
-const SELF: u16 = 0x047F;
+const S4U2SELF: u16 = 0x047F;
 const DELEGATED: u16 = 0x01FF;
 const BARRED: u16 = 0x0200;
 
-/// The request map bits of the fields that some request may lack.
+/// R4.1: the request map bits of the fields that a request may lack.
 const OPTIONS: u16 = 1 << 1;
 const PAC_OPTIONS: u16 = 1 << 2;
 const TILL: u16 = 1 << 3;
 
-/// Where a ticket comes from, with the numbers of the tickets that it rests on.
+/// R3.3: where a ticket comes from, with the numbers of the tickets that it rests on.
 #[derive(Clone, Copy, Debug, PartialEq, Eq)]
 pub enum Origin {
     Initial,
     Direct { tgt: u16 },
-    SelfIssued { tgt: u16 },
+    S4U2self { tgt: u16 },
     Delegated { tgt: u16, evidence: u16 },
 }
 
 impl Origin {
-    /// "Back from a delegated ticket goes to its evidence, from direct or self to its TGT."
+    /// R9.1: the number of the ticket one step back; an initial ticket has none.
     pub fn back(&self) -> Option<u16> {
         match *self {
             Origin::Initial => None,
-            Origin::Direct { tgt } | Origin::SelfIssued { tgt } => Some(tgt),
+            Origin::Direct { tgt } | Origin::S4U2self { tgt } => Some(tgt),
             Origin::Delegated { evidence, .. } => Some(evidence),
         }
     }
 }
 
-/// A ticket. An initial one has service 0. The trail is the first `hops` places of `trail`.
+/// R3.2: a ticket. An initial one has service 0. The trail is the first `hops` places of `trail`.
 #[derive(Clone, Copy, Debug, PartialEq, Eq)]
 pub struct Ticket {
     pub number: u16,
     pub flags: u32,
-    pub client: u8,
-    pub service: u8,
+    pub client: Principal,
+    pub service: Principal,
     pub start: u32,
     pub end: u32,
     pub origin: Origin,
@@ -60,12 +60,12 @@ pub struct Ticket {
 }
 
 impl Ticket {
-    /// The map of the ticket's record.
+    /// R3.3: the map of the ticket's record.
     fn map(&self) -> u16 {
         let map = match self.origin {
             Origin::Initial => INITIAL,
             Origin::Direct { .. } => DIRECT,
-            Origin::SelfIssued { .. } => SELF,
+            Origin::S4U2self { .. } => S4U2SELF,
             Origin::Delegated { .. } => DELEGATED,
         };
         if self.barred {
@@ -75,8 +75,8 @@ impl Ticket {
         }
     }
 
-    /// Whether some record reads as this ticket: an initial ticket has no service, only a delegated
-    /// one has a trail, of 1 to 8 accounts, and the places after the trail are 0.
+    /// R3.6: whether some record reads as this ticket. An initial one may have no service, only a
+    /// delegated one has a trail, which is not empty, and the places after a trail are 0.
     fn has_record(&self) -> bool {
         let hops_allowed = match self.origin {
             Origin::Delegated { .. } => 1..=self.trail.len(),
@@ -84,7 +84,7 @@ impl Ticket {
         };
         let hops = usize::from(self.hops);
         hops_allowed.contains(&hops)
-            && self.trail[hops..].iter().all(|&account| account == 0)
+            && self.trail[hops..].iter().all(|&principal| principal == 0)
             && (self.origin != Origin::Initial || self.service == 0)
     }
 }
@@ -137,28 +137,29 @@ impl<'a> Unread<'a> {
         self.counted().and_then(read_ticket)
     }
 
-    /// The origin that a map without the barred mark names, with its back numbers.
+    /// R3.3: the origin of a map, its barred mark left out, with the back numbers.
     fn origin(&mut self, map: u16) -> Result<Origin, Error> {
         Ok(match map {
             INITIAL => Origin::Initial,
             DIRECT => Origin::Direct { tgt: self.u16()? },
-            SELF => Origin::SelfIssued { tgt: self.u16()? },
+            S4U2SELF => Origin::S4U2self { tgt: self.u16()? },
             DELEGATED => Origin::Delegated { tgt: self.u16()?, evidence: self.u16()? },
             _ => return Err(Error::Generic),
         })
     }
 
-    /// The trail and its length, 1 to 8.
+    /// R3.2: the trail and its count, which is neither 0 nor above the limit.
     fn trail(&mut self) -> Result<(Trail, u8), Error> {
-        let accounts = self.counted()?;
+        let principals = self.counted()?;
         let mut trail = NO_TRAIL;
-        if accounts.is_empty() || accounts.len() > trail.len() {
+        if principals.is_empty() || principals.len() > TRAIL_LIMIT {
             return Err(Error::Generic);
         }
-        trail[..accounts.len()].copy_from_slice(accounts);
-        Ok((trail, accounts.len() as u8))
+        trail[..principals.len()].copy_from_slice(principals);
+        Ok((trail, principals.len() as u8))
     }
 
+    /// 60 where a byte is left over.
     fn finish(self) -> Result<(), Error> {
         if self.0.is_empty() {
             Ok(())
@@ -168,19 +169,19 @@ impl<'a> Unread<'a> {
     }
 }
 
-/// The ticket of a record.
+/// R3.5: the ticket of a record. The fields are read in the order of their map bits (R3.1).
 pub fn read_ticket(record: &[u8]) -> Result<Ticket, Error> {
     let mut unread = Unread(record);
     let map = unread.u16()?;
-    let kind = map & !BARRED;
+    let unmarked = map & !BARRED;
     let number = unread.u16()?;
     let flags = unread.u32()?;
     let client = unread.u8()?;
-    let service = if kind == INITIAL { 0 } else { unread.u8()? };
+    let service = if unmarked == INITIAL { 0 } else { unread.u8()? };
     let start = unread.u32()?;
     let end = unread.u32()?;
-    let origin = unread.origin(kind)?;
-    let (trail, hops) = if kind == DELEGATED { unread.trail()? } else { (NO_TRAIL, 0) };
+    let origin = unread.origin(unmarked)?;
+    let (trail, hops) = if unmarked == DELEGATED { unread.trail()? } else { (NO_TRAIL, 0) };
     unread.finish()?;
     let barred = map & BARRED != 0;
     Ok(Ticket { number, flags, client, service, start, end, origin, trail, hops, barred })
@@ -199,7 +200,7 @@ impl Filled<'_> {
     }
 }
 
-/// Writes the ticket's record to the output's start, and gives the record's length.
+/// R3.7: writes the ticket's record to the start of the output, and gives the record's length.
 pub fn write_ticket(ticket: &Ticket, output: &mut [u8]) -> Result<usize, Error> {
     if !ticket.has_record() {
         return Err(Error::Generic);
@@ -219,7 +220,7 @@ pub fn write_ticket(ticket: &Ticket, output: &mut [u8]) -> Result<usize, Error> 
     record.put(&ticket.end.to_be_bytes());
     match ticket.origin {
         Origin::Initial => {}
-        Origin::Direct { tgt } | Origin::SelfIssued { tgt } => record.put(&tgt.to_be_bytes()),
+        Origin::Direct { tgt } | Origin::S4U2self { tgt } => record.put(&tgt.to_be_bytes()),
         Origin::Delegated { tgt, evidence } => {
             record.put(&tgt.to_be_bytes());
             record.put(&evidence.to_be_bytes());
@@ -230,16 +231,16 @@ pub fn write_ticket(ticket: &Ticket, output: &mut [u8]) -> Result<usize, Error> 
     Ok(record.length)
 }
 
-/// What a request asks for, with the tickets and names that its kind needs.
+/// R4.2: what a request asks for, with the tickets and names that its kind needs.
 #[derive(Clone, Copy, Debug, PartialEq, Eq)]
 pub enum Kind<'a> {
     Initial { user: &'a [u8] },
     Direct { tgt: Ticket, service: &'a [u8] },
-    S4u2self { tgt: Ticket, user: &'a [u8] },
-    S4u2proxy { tgt: Ticket, evidence: Ticket, service: &'a [u8] },
+    S4U2self { tgt: Ticket, user: &'a [u8] },
+    S4U2proxy { tgt: Ticket, evidence: Ticket, service: &'a [u8] },
 }
 
-/// A request. Options that are absent are 0, and so is till.
+/// R4.1: a request. A number that it lacks is 0 here (R4.4, R4.5).
 #[derive(Clone, Copy, Debug, PartialEq, Eq)]
 pub struct Request<'a> {
     pub kind: Kind<'a>,
@@ -248,7 +249,7 @@ pub struct Request<'a> {
     pub till: u32,
 }
 
-/// The map bits that a kind needs, and those that it allows.
+/// R4.2: the map bits that a kind needs, and those that it allows.
 fn map_bits(kind: u8) -> Result<(u16, u16), Error> {
     match kind {
         1 => Ok((0x41, 0x4B)),
@@ -259,11 +260,12 @@ fn map_bits(kind: u8) -> Result<(u16, u16), Error> {
     }
 }
 
-/// The request of these bytes. Its names are parts of them.
+/// R4.3: the request of these bytes. Its names are parts of them (R4.6).
 pub fn read_request(request: &[u8]) -> Result<Request<'_>, Error> {
     let mut unread = Unread(request);
     let map = unread.u16()?;
-    // Every kind needs bit 0: where it is absent, the byte read here plays no part.
+    // Every kind needs bit 0: without it this is not the kind's byte, and whatever it is, the map is
+    // refused.
     let kind = unread.u8()?;
     let (needed, allowed) = map_bits(kind)?;
     if map & needed != needed || map & !allowed != 0 {
@@ -276,8 +278,8 @@ pub fn read_request(request: &[u8]) -> Result<Request<'_>, Error> {
     let kind = match kind {
         1 => Kind::Initial { user: unread.counted()? },
         2 => Kind::Direct { tgt: unread.ticket()?, service: unread.counted()? },
-        3 => Kind::S4u2self { tgt: unread.ticket()?, user: unread.counted()? },
-        4 => Kind::S4u2proxy {
+        3 => Kind::S4U2self { tgt: unread.ticket()?, user: unread.counted()? },
+        4 => Kind::S4U2proxy {
             tgt: unread.ticket()?,
             evidence: unread.ticket()?,
             service: unread.counted()?,
@@ -296,7 +298,7 @@ mod tests {
     const RECORDS: [&[u8]; 3] = [TICKET_0, TICKET_1, TICKET_2];
 
     #[test]
-    fn a_record_that_reads_is_written_again() {
+    fn r3_8_a_record_that_reads_is_written_again() {
         for record in RECORDS {
             let ticket = read_ticket(record).unwrap();
             let mut output = [0; LONGEST_RECORD];
@@ -306,7 +308,7 @@ mod tests {
     }
 
     #[test]
-    fn a_short_output_is_refused_and_left_as_it_was() {
+    fn r3_7_a_short_output_is_refused_and_left_as_it_was() {
         let ticket = read_ticket(RECORDS[0]).unwrap();
         let mut output = [0xEE; LONGEST_RECORD - 1];
         assert_eq!(write_ticket(&ticket, &mut output), Err(Error::ResponseTooBig));
@@ -314,13 +316,13 @@ mod tests {
     }
 
     #[test]
-    fn point_14_a_value_that_the_reader_never_gives_is_60_before_52() {
-        let [initial, own, delegated] = RECORDS.map(|record| read_ticket(record).unwrap());
+    fn r3_7_a_value_without_a_record_is_60_before_52() {
+        let [initial, s4u2self, delegated] = RECORDS.map(|record| read_ticket(record).unwrap());
         let stale = [1, 0, 0, 0, 0, 0, 0, 9];
         for odd in [
             Ticket { service: 1, ..initial },
             Ticket { hops: 1, ..initial },
-            Ticket { trail: stale, ..own },
+            Ticket { trail: stale, ..s4u2self },
             Ticket { hops: 0, ..delegated },
             Ticket { hops: 0, trail: NO_TRAIL, ..delegated },
             Ticket { hops: 9, ..delegated },
@@ -335,7 +337,7 @@ mod tests {
     }
 
     #[test]
-    fn point_15_bytes_past_the_record_stay_as_they_were() {
+    fn r3_7_bytes_past_the_record_stay_as_they_were() {
         let ticket = read_ticket(RECORDS[1]).unwrap();
         let mut output = [0xEE; LONGEST_RECORD];
         assert_eq!(write_ticket(&ticket, &mut output), Ok(20));
@@ -343,7 +345,7 @@ mod tests {
     }
 
     #[test]
-    fn points_20_and_22_missing_and_left_over_bytes() {
+    fn r4_3_a_byte_too_few_or_too_many_is_60() {
         let whole = w3_with(&counted(TICKET_1));
         assert!(read_request(&whole).is_ok());
         assert!((0..whole.len()).all(|cut| read_request(&whole[..cut]) == Err(Error::Generic)));
@@ -355,7 +357,7 @@ mod tests {
     }
 
     #[test]
-    fn the_first_request_of_the_morning_reads() {
+    fn r11_3_the_first_request_of_the_morning_reads() {
         let kind = Kind::Initial { user: b"web" };
         let request = Request { kind, options: 0, pac_options: 0, till: 0 };
         assert_eq!(read_request(&w1()), Ok(request));

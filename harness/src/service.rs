@@ -1,14 +1,11 @@
-//! The service as a whole, its ledger, the descent call and the day total: document 01, sections
-//! "Decisions", "Lawful descent" and "Error numbers".
+//! The service as a whole, its ledger, the descent call and the day total: R6.1, R7.1 to R7.5.
 
 use crate::accounts::{Edit, Table};
 use crate::decisions::{decide, Moment};
+use crate::limits::TICKET_LIMIT;
 use crate::record::{read_request, write_ticket, Error, Kind, Request, Ticket};
 
-pub use crate::decisions::PLACES;
-
-/// Accounts and tickets. Only the first 512 tickets count: "a stored count above 512 is read as 512
-/// tickets".
+/// Accounts and tickets. Only as many tickets count as there are places (R7.1).
 #[derive(Clone, Debug, PartialEq, Eq)]
 pub struct Service {
     pub table: Table,
@@ -22,19 +19,18 @@ impl Default for Service {
 }
 
 impl Service {
-    /// "A fresh service, without accounts or tickets, begins daily."
+    /// R7.2: the service that a day begins with: no account is set, and no ticket held.
     pub fn fresh() -> Service {
-        Service { table: Table::empty(), ledger: Vec::with_capacity(PLACES) }
+        Service { table: Table::empty(), ledger: Vec::with_capacity(TICKET_LIMIT) }
     }
 
-    /// "An edit sets one account whole." A refused one changes nothing.
+    /// R2.8: an edit. A refused one changes nothing.
     pub fn edit(&mut self, edit: &Edit) -> Result<(), Error> {
         self.table.edit(edit)
     }
 
-    /// A request: on a grant the ticket goes to the end of the ledger and its record to the
-    /// output's start, and the answer is the record's length. On a refusal "the service and output
-    /// stay as before".
+    /// R7.3: a request. A grant puts the ticket last in the ledger and its record first in the output,
+    /// and answers the record's length. A refusal changes neither (R6.1).
     pub fn request(
         &mut self,
         request: &[u8],
@@ -49,60 +45,66 @@ impl Service {
     }
 
     /// What the decision of a request looks at.
-    fn moment(&self, request: &Request, now: u32, output: usize) -> Moment<'_> {
-        let (tgt, evidence) = match &request.kind {
+    fn moment(&self, request: &Request, clock: u32, room: usize) -> Moment<'_> {
+        let (first_tgt, first_evidence) = match &request.kind {
             Kind::Initial { .. } => (None, None),
-            Kind::Direct { tgt, .. } | Kind::S4u2self { tgt, .. } => {
-                (self.ticket(tgt.number), None)
+            Kind::Direct { tgt, .. } | Kind::S4U2self { tgt, .. } => {
+                (self.first_held(tgt.number), None)
             }
-            Kind::S4u2proxy { tgt, evidence, .. } => {
-                (self.ticket(tgt.number), self.ticket(evidence.number))
+            Kind::S4U2proxy { tgt, evidence, .. } => {
+                (self.first_held(tgt.number), self.first_held(evidence.number))
             }
         };
-        Moment { table: &self.table, tgt, evidence, now, held: self.held().len(), output }
+        let count = self.held().len();
+        Moment { table: &self.table, first_tgt, first_evidence, clock, count, room }
     }
 
-    /// The tickets that the ledger holds.
+    /// R7.1: the tickets that the ledger holds.
     pub fn held(&self) -> &[Ticket] {
-        &self.ledger[..self.ledger.len().min(PLACES)]
+        &self.ledger[..self.ledger.len().min(TICKET_LIMIT)]
     }
 
-    /// "A number stands for the first ticket in the ledger that has it."
-    pub fn ticket(&self, number: u16) -> Option<&Ticket> {
+    /// R7.1: the first ticket of a number among those held.
+    pub fn first_held(&self, number: u16) -> Option<&Ticket> {
         self.held().iter().find(|ticket| ticket.number == number)
     }
 
-    /// "The descent call counts the steps to the initial ticket"; 41 "for a number not held, or
-    /// where a back number is absent or doesn't fall".
+    /// R7.4: how many steps back the initial ticket is; 41 where a step's number is not held, or is
+    /// not less than the one before it.
     pub fn descent(&self, number: u32) -> Result<u32, Error> {
         let number = u16::try_from(number).map_err(|_| Error::Modified)?;
-        let mut ticket = self.ticket(number).ok_or(Error::Modified)?;
+        let mut ticket = self.first_held(number).ok_or(Error::Modified)?;
         let mut steps = 0;
         while let Some(back) = ticket.origin.back() {
             if back >= ticket.number {
                 return Err(Error::Modified);
             }
-            ticket = self.ticket(back).ok_or(Error::Modified)?;
+            ticket = self.first_held(back).ok_or(Error::Modified)?;
             steps += 1;
         }
         Ok(steps)
     }
 
-    /// "Day total: the sum over the ledger in its order of end minus start, 0 where end isn't
-    /// later."
+    /// R7.5: the seconds of all tickets held.
     pub fn day_total(&self) -> u64 {
-        self.held().iter().map(|ticket| u64::from(ticket.end.saturating_sub(ticket.start))).sum()
+        self.held().iter().map(seconds).sum()
     }
+}
+
+/// R7.5: the seconds from a ticket's start to its end, none where the end is not later.
+fn seconds(ticket: &Ticket) -> u64 {
+    ticket.end.saturating_sub(ticket.start).into()
 }
 
 #[cfg(test)]
 mod tests {
     use super::*;
     use crate::fixtures::{kind_1, kind_2, kind_3, kind_4, record, Day, LIFETIME};
-    use crate::record::{read_ticket, Origin, LONGEST_RECORD, NO_TRAIL};
+    use crate::limits::{LAST_SECOND, LONGEST_RECORD, TRAIL_LIMIT};
+    use crate::record::{read_ticket, Origin, NO_TRAIL};
     use crate::samples::{counted, w1, w3_with, TICKET_0, TICKET_1, TICKET_2};
 
-    /// W2: kind 3 for `tech` with ticket 0.
+    /// W2: with ticket 0, kind 3 for `tech`.
     fn w2() -> Vec<u8> {
         [&b"\x00\x51\x03"[..], &counted(TICKET_0), &counted(b"tech")].concat()
     }
@@ -138,7 +140,7 @@ mod tests {
     }
 
     #[test]
-    fn the_morning() {
+    fn r11_3_the_morning() {
         let w3 = w3_with(&counted(TICKET_1));
         assert_eq!(after_w3().ask_bytes(&w3, 37000), Err(32));
         let fourth = after_w3().ask_bytes(&w3, 36999).unwrap();
@@ -146,7 +148,7 @@ mod tests {
     }
 
     #[test]
-    fn descent_and_total_of_the_morning() {
+    fn r7_4_descent_and_day_total_of_the_morning() {
         let Day { service, .. } = after_w3();
         let descents = [0, 1, 2, 3, 65536, u32::MAX].map(|number| service.descent(number));
         let none = Err(Error::Modified);
@@ -157,7 +159,7 @@ mod tests {
     }
 
     #[test]
-    fn an_output_under_31_bytes_is_52_after_60_and_before_the_rest() {
+    fn r6_2_a_short_output_is_52_after_60_and_before_the_rest() {
         let mut day = after_w3();
         let mut short = [0; LONGEST_RECORD - 1];
         let refused = |service: &mut Service, request: &[u8], output: &mut [u8]| {
@@ -170,34 +172,34 @@ mod tests {
     }
 
     #[test]
-    fn points_32_and_40_the_513th_grant_is_29_and_29_is_last() {
+    fn r6_7_the_513th_grant_is_29_and_29_is_last() {
         let mut day = Day::morning();
-        for number in 0..512 {
+        for number in 0..TICKET_LIMIT as u16 {
             assert_eq!(day.grant(&kind_1("web"), 1000).number, number);
         }
         assert_eq!(day.ask(&kind_1("web"), 1000), Err(29));
         assert_eq!(day.ask(&kind_1("ghost"), 1000), Err(6));
         assert_eq!(day.ask(&kind_1("web").till(1000), 1000), Err(11));
-        let last = day.service.ledger[511];
+        let last = day.service.ledger[TICKET_LIMIT - 1];
         assert_eq!(day.ask(&kind_3(&last, "tech"), 999), Err(33));
         assert_eq!(day.ask(&kind_3(&last, "tech"), 1000), Err(29));
         assert_eq!(day.service.day_total(), 512 * u64::from(LIFETIME));
     }
 
     #[test]
-    fn point_40_tickets_past_the_512th_are_not_held() {
+    fn r7_1_tickets_past_the_512th_are_not_held() {
         let mut day = Day::morning();
-        day.service.ledger = vec![ticket(0, Origin::Initial); 512];
+        day.service.ledger = vec![ticket(0, Origin::Initial); TICKET_LIMIT];
         day.service.ledger.push(ticket(600, Origin::Initial));
         assert_eq!(day.service.descent(600), Err(Error::Modified));
         assert_eq!(day.service.day_total(), 512 * 1000);
         assert_eq!(day.ask(&kind_3(&ticket(600, Origin::Initial), "tech"), 1000), Err(41));
         assert_eq!(day.ask(&kind_3(&ticket(0, Origin::Initial), "tech"), 1000), Err(29));
-        assert_eq!(day.service.ledger.len(), 513);
+        assert_eq!(day.service.ledger.len(), TICKET_LIMIT + 1);
     }
 
     #[test]
-    fn point_28_the_first_ticket_of_a_number_counts() {
+    fn r7_1_the_first_ticket_of_a_number_counts() {
         let mut day = Day::morning();
         let first = ticket(5, Origin::Initial);
         let second = Ticket { end: 3000, ..first };
@@ -208,10 +210,10 @@ mod tests {
     }
 
     #[test]
-    fn point_28_a_value_that_the_reader_never_gives_equals_nothing_presented() {
+    fn r5_1_a_value_without_a_record_equals_nothing_presented() {
         let plain = ticket(0, Origin::Initial);
         let mut stale = NO_TRAIL;
-        stale[7] = 1;
+        stale[TRAIL_LIMIT - 1] = 1;
         for odd in [
             Ticket { service: 1, ..plain },
             Ticket { trail: stale, ..plain },
@@ -227,7 +229,7 @@ mod tests {
     }
 
     #[test]
-    fn point_28_every_field_counts() {
+    fn r5_1_every_field_counts() {
         let mut day = after_w3();
         let [tgt, evidence, delegated] =
             [TICKET_0, TICKET_1, TICKET_2].map(|record| read_ticket(record).unwrap());
@@ -255,16 +257,18 @@ mod tests {
     }
 
     #[test]
-    fn point_41_descent_in_states_that_no_calls_make() {
+    fn r7_4_descent_over_ledgers_that_grants_do_not_give() {
         let mut service = Service::fresh();
+        let last = TICKET_LIMIT as u32 - 1;
+        let behind = |tgt| ticket(tgt + 1, Origin::Direct { tgt });
         service.ledger.push(ticket(0, Origin::Initial));
-        service.ledger.extend((1..512).map(|at| ticket(at, Origin::Direct { tgt: at - 1 })));
-        assert_eq!(service.descent(511), Ok(511));
-        service.ledger[100].origin = Origin::SelfIssued { tgt: 100 };
-        assert_eq!(service.descent(511), Err(Error::Modified));
+        service.ledger.extend((0..last as u16).map(behind));
+        assert_eq!(service.descent(last), Ok(last));
+        service.ledger[100].origin = Origin::S4U2self { tgt: 100 };
+        assert_eq!(service.descent(last), Err(Error::Modified));
         assert_eq!(service.descent(99), Ok(99));
         service.ledger[100].origin = Origin::Delegated { tgt: 600, evidence: 99 };
-        assert_eq!(service.descent(511), Ok(511));
+        assert_eq!(service.descent(last), Ok(last));
         service.ledger[100].origin = Origin::Direct { tgt: 101 };
         assert_eq!(service.descent(100), Err(Error::Modified));
         service.ledger[100].origin = Origin::Direct { tgt: 50 };
@@ -275,15 +279,15 @@ mod tests {
     }
 
     #[test]
-    fn the_day_total_counts_nothing_where_the_end_is_not_later() {
+    fn r7_5_the_day_total_counts_nothing_where_the_end_is_not_later() {
         let mut service = Service::fresh();
         let plain = ticket(0, Origin::Initial);
         service.ledger = vec![
-            Ticket { start: 0, end: u32::MAX, ..plain },
-            Ticket { start: u32::MAX, end: 0, ..plain },
+            Ticket { start: 0, end: LAST_SECOND, ..plain },
+            Ticket { start: LAST_SECOND, end: 0, ..plain },
             Ticket { start: 7, end: 7, ..plain },
-            Ticket { start: 0, end: u32::MAX, ..plain },
+            Ticket { start: 0, end: LAST_SECOND, ..plain },
         ];
-        assert_eq!(service.day_total(), 2 * u64::from(u32::MAX));
+        assert_eq!(service.day_total(), 2 * u64::from(LAST_SECOND));
     }
 }

@@ -1,30 +1,21 @@
-//! The words that a caller lends: docs/ARCHITECTURE.md, "The accounts' words" and "The ledger's
-//! words". Any words stand for some service; what a call stores are exactly the words given here.
+//! The words that a caller lends, laid out as in docs/ARCHITECTURE.md. Any words stand for some
+//! service; what a call stores are exactly the words given here.
 
-use crate::accounts::{Account, Edit, Name, Table, ACCOUNTS, LONGEST_NAME};
+use crate::accounts::{Account, Edit, Name, Table};
+use crate::limits::{ACCOUNTS_SIZE, LEDGER_SIZE, NAME_LIMIT, PLACE_SIZE, ROW_SIZE, TICKET_LIMIT};
 use crate::record::{Origin, Ticket};
-use crate::service::{Service, PLACES};
-
-/// The words of an account.
-pub const ROW: usize = 6;
-
-/// The words of a ticket.
-pub const PLACE: usize = 4;
-
-/// How many words the accounts have, and how many the ledger has.
-pub const ACCOUNT_WORDS: usize = ROW * ACCOUNTS;
-pub const LEDGER_WORDS: usize = 1 + PLACE * PLACES;
+use crate::service::Service;
 
 /// The words of all accounts.
-pub type AccountWords = [u64; ACCOUNT_WORDS];
+pub type AccountWords = [u64; ACCOUNTS_SIZE];
 
 /// The words of the ledger: the stored count, and those of its places.
-pub type LedgerWords = [u64; LEDGER_WORDS];
+pub type LedgerWords = [u64; LEDGER_SIZE];
 
 /// The tags of a ticket's origin; every other one is that of a delegated ticket too.
 const INITIAL: u8 = 0;
 const DIRECT: u8 = 1;
-const SELF: u8 = 2;
+const S4U2SELF: u8 = 2;
 const DELEGATED: u8 = 3;
 
 /// The stored mark of a barred ticket; every other one is that of a ticket without the mark.
@@ -37,32 +28,32 @@ pub fn service(accounts: &AccountWords, ledger: &LedgerWords) -> Service {
 
 /// The table that the words stand for.
 pub fn table(accounts: &AccountWords) -> Table {
-    Table { rows: std::array::from_fn(|number| account(&accounts[row_at(number)..][..ROW])) }
+    Table { rows: std::array::from_fn(|number| account(&accounts[row_at(number)..][..ROW_SIZE])) }
 }
 
 /// The tickets that the words stand for.
 pub fn tickets(ledger: &LedgerWords) -> Vec<Ticket> {
-    (0..held(ledger)).map(|place| ticket(&ledger[place_at(place)..][..PLACE])).collect()
+    (0..count_held(ledger)).map(|place| ticket(&ledger[place_at(place)..][..PLACE_SIZE])).collect()
 }
 
-/// How many tickets are held: the stored count, or 512 if it is above.
-pub fn held(ledger: &LedgerWords) -> usize {
-    ledger[0].min(PLACES as u64) as usize
+/// R7.1: how many tickets are held: as many as the stored count says, and no more than the limit.
+pub fn count_held(ledger: &LedgerWords) -> usize {
+    ledger[0].min(TICKET_LIMIT as u64) as usize
 }
 
 /// Where the words of an account start.
 pub fn row_at(number: usize) -> usize {
-    ROW * number
+    ROW_SIZE * number
 }
 
 /// Where the words of a place start.
 pub fn place_at(place: usize) -> usize {
-    1 + PLACE * place
+    1 + PLACE_SIZE * place
 }
 
-/// The account of six words; it is set where the stored length is 1 to 24.
+/// The account of a row's words; it is set where the stored length is one that a name has.
 fn account(words: &[u64]) -> Option<Account> {
-    let mut bytes = [0; LONGEST_NAME];
+    let mut bytes = [0; NAME_LIMIT];
     for (chunk, word) in bytes.chunks_exact_mut(8).zip(words) {
         chunk.copy_from_slice(&word.to_le_bytes());
     }
@@ -77,8 +68,8 @@ fn account(words: &[u64]) -> Option<Account> {
 }
 
 /// The words of an account that an edit sets.
-pub fn row_words(account: &Account) -> [u64; ROW] {
-    let mut bytes = [0; LONGEST_NAME];
+pub fn row_words(account: &Account) -> [u64; ROW_SIZE] {
+    let mut bytes = [0; NAME_LIMIT];
     bytes[..account.name().len()].copy_from_slice(account.name());
     let name = |at: usize| (0..8).fold(0, |word, i| word | u64::from(bytes[at + i]) << (8 * i));
     let length = account.name().len() as u64;
@@ -86,7 +77,7 @@ pub fn row_words(account: &Account) -> [u64; ROW] {
     [name(0), name(8), name(16), details, account.send, account.receive]
 }
 
-/// The ticket of four words.
+/// The ticket of a place's words.
 fn ticket(words: &[u64]) -> Ticket {
     let tgt = (words[2] >> 32) as u16;
     let evidence = (words[2] >> 48) as u16;
@@ -100,7 +91,7 @@ fn ticket(words: &[u64]) -> Ticket {
         origin: match words[2] as u8 {
             INITIAL => Origin::Initial,
             DIRECT => Origin::Direct { tgt },
-            SELF => Origin::SelfIssued { tgt },
+            S4U2SELF => Origin::S4U2self { tgt },
             _ => Origin::Delegated { tgt, evidence },
         },
         barred: (words[2] >> 8) as u8 == MARK,
@@ -110,11 +101,11 @@ fn ticket(words: &[u64]) -> Ticket {
 }
 
 /// The words of a ticket that a grant stores.
-pub fn ticket_words(ticket: &Ticket) -> [u64; PLACE] {
+pub fn ticket_words(ticket: &Ticket) -> [u64; PLACE_SIZE] {
     let (tag, tgt, evidence) = match ticket.origin {
         Origin::Initial => (INITIAL, 0, 0),
         Origin::Direct { tgt } => (DIRECT, tgt, 0),
-        Origin::SelfIssued { tgt } => (SELF, tgt, 0),
+        Origin::S4U2self { tgt } => (S4U2SELF, tgt, 0),
         Origin::Delegated { tgt, evidence } => (DELEGATED, tgt, evidence),
     };
     let mark = if ticket.barred { MARK } else { 0 };
@@ -143,14 +134,14 @@ pub fn store_edit(accounts: &mut AccountWords, edit: &Edit) {
 
 /// Sets the words of an account.
 pub fn store_account(accounts: &mut AccountWords, number: usize, account: &Account) {
-    accounts[row_at(number)..][..ROW].copy_from_slice(&row_words(account));
+    accounts[row_at(number)..][..ROW_SIZE].copy_from_slice(&row_words(account));
 }
 
 /// Stores a granted ticket: the words of the first place that is not held change, the count becomes
 /// that place's number and one, and no other word changes.
 pub fn store_ticket(ledger: &mut LedgerWords, ticket: &Ticket) {
-    let place = held(ledger);
-    ledger[place_at(place)..][..PLACE].copy_from_slice(&ticket_words(ticket));
+    let place = count_held(ledger);
+    ledger[place_at(place)..][..PLACE_SIZE].copy_from_slice(&ticket_words(ticket));
     ledger[0] = place as u64 + 1;
 }
 
@@ -192,8 +183,8 @@ mod tests {
     }
 
     #[test]
-    fn a_count_above_512_is_read_as_512() {
-        let mut ledger = [0; LEDGER_WORDS];
+    fn r7_1_no_more_than_512_tickets_are_held() {
+        let mut ledger = [0; LEDGER_SIZE];
         for (count, read) in [(0, 0), (511, 511), (512, 512), (513, 512), (u64::MAX, 512)] {
             ledger[0] = count;
             assert_eq!(tickets(&ledger).len(), read);

@@ -1,6 +1,6 @@
 //! The compiled library against the second implementation, on seeded histories of edits and
 //! requests: answers, outputs with the bytes around them, all words, descents, day totals, and the
-//! plain book.
+//! plain book (R8.1 to R9.8).
 
 use harness::histories::{run, Tally};
 use std::thread;

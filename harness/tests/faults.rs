@@ -5,8 +5,8 @@ use harness::accounts::Edit;
 use harness::calls::{Answer, RequestFields};
 use harness::histories::{edit_of, generate, odd, Call};
 use harness::library;
+use harness::limits::{ACCOUNTS_SIZE, ACCOUNT_LIMIT, LEDGER_SIZE, LONGEST_RECORD, NAME_LIMIT};
 use harness::random::Random;
-use harness::record::LONGEST_RECORD;
 use harness::samples::{counted, w1, w3_with, TICKET_0, TICKET_1, TICKET_2};
 use std::env;
 use std::ffi::{c_int, c_void};
@@ -24,6 +24,9 @@ const PAGE: usize = 4096;
 const PROT_NONE: c_int = 0;
 const PROT_READ_WRITE: c_int = 3;
 const MAP_PRIVATE_ANONYMOUS: c_int = 0x22;
+
+/// Lengths of outputs that are too short, just long enough, and longer.
+const OUTPUTS: [usize; 6] = [0, 1, LONGEST_RECORD - 1, LONGEST_RECORD, LONGEST_RECORD + 1, 64];
 
 /// The signal of a read or write that memory does not allow.
 const SIGSEGV: i32 = 11;
@@ -117,8 +120,7 @@ struct FencedCalls {
 impl FencedCalls {
     /// Words, input and output at this side of their fences.
     fn new(side: Side) -> Self {
-        let [accounts, ledger] = [harness::words::ACCOUNT_WORDS, harness::words::LEDGER_WORDS]
-            .map(|words| Fenced::new(8 * words));
+        let [accounts, ledger] = [ACCOUNTS_SIZE, LEDGER_SIZE].map(|words| Fenced::new(8 * words));
         Self { side, accounts, ledger, input: Fenced::new(2 * PAGE), output: Fenced::new(PAGE) }
     }
 
@@ -265,7 +267,7 @@ fn parts_and_changes_of_requests_at_fences() {
             let mut expected = fields;
             assert_eq!(error, library::read_request(&request, &mut expected));
             assert_eq!(fields, expected);
-            for output in [0, 1, 30, 31, 32, 64] {
+            for output in OUTPUTS {
                 let mut plain = morning.clone();
                 fenced.set(&morning);
                 let call = Call::Request { request: request.clone(), clock: 1020, output };
@@ -288,7 +290,7 @@ fn parts_and_changes_of_records_at_fences() {
             let altered: Vec<_> =
                 (0..2_000).map(|_| odd::bytes(&mut random, whole.to_vec())).collect();
             for record in parts.chain(altered) {
-                for length in [0, 1, 30, 31, 32, 64] {
+                for length in OUTPUTS {
                     let answer = library::rewrite(&record, &mut [0; 64][..length]);
                     assert_eq!(fenced.rewrite(&record, length), answer, "{record:02x?}");
                 }
@@ -304,8 +306,9 @@ fn names_of_all_lengths_at_fences() {
         for length in 0..=300 {
             fenced.make_fresh();
             let name = &vec![b'n'; length];
-            let edit = Edit { number: 63, name, flags: 8, send: 1, receive: 2, lifetime: 3 };
-            let expected = if (1..=24).contains(&length) { 0 } else { 60 };
+            let number = ACCOUNT_LIMIT as u32 - 1;
+            let edit = Edit { number, name, flags: 8, send: 1, receive: 2, lifetime: 3 };
+            let expected = if (1..=NAME_LIMIT).contains(&length) { 0 } else { 60 };
             assert_eq!(fenced.edit(&edit), expected, "a name of {length} bytes");
             assert_eq!(fenced.edit(&edit), expected, "the same name of {length} bytes again");
         }

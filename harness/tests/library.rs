@@ -4,8 +4,8 @@
 use harness::calls::{self, RequestFields};
 use harness::histories::odd;
 use harness::library;
+use harness::limits::{LONGEST_RECORD, NAME_LIMIT, TRAIL_LIMIT};
 use harness::random::Random;
-use harness::record::LONGEST_RECORD;
 use harness::samples::counted;
 
 /// How many records are tried, and how many requests.
@@ -17,10 +17,10 @@ const SEED: u64 = 0x7469_636B_6574_7331;
 /// The bytes before and after an output, which no call may touch.
 const MARGIN: usize = 16;
 
-/// The eight maps of a ticket record.
+/// R3.3: the eight maps of a ticket record.
 const TICKET_MAPS: [u16; 8] = [0x0037, 0x0237, 0x007F, 0x027F, 0x047F, 0x067F, 0x01FF, 0x03FF];
 
-/// The needed map bits of each kind, and those that it may have besides.
+/// R4.2: the map bits that each kind needs, and those that it may have besides.
 const REQUEST_MAPS: [(u16, u16); 4] = [(0x41, 0x0A), (0x91, 0x0A), (0x51, 0x0A), (0xB3, 0x0C)];
 
 /// A record that reads.
@@ -33,7 +33,7 @@ fn record(random: &mut Random) -> Vec<u8> {
     };
     let mut record = [&map.to_be_bytes()[..], &random.bytes(fixed)].concat();
     if map & 0x0100 != 0 {
-        let hops = 1 + random.below(8);
+        let hops = 1 + random.below(TRAIL_LIMIT);
         record.extend(counted(&random.bytes(hops)));
     }
     record
@@ -41,8 +41,8 @@ fn record(random: &mut Random) -> Vec<u8> {
 
 /// A length byte and bytes, mostly few.
 fn name(random: &mut Random) -> Vec<u8> {
-    let most = if random.once_in(8) { 256 } else { 25 };
-    let length = random.below(most);
+    let most = if random.once_in(8) { u8::MAX.into() } else { NAME_LIMIT };
+    let length = random.below(most + 1);
     counted(&random.bytes(length))
 }
 

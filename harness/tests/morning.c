@@ -1,5 +1,6 @@
-/* Document 01's morning over include/tickets.h: by the calls over a tickets_service, and again by the plain calls. Every answer is compared
- * with the paper's bytes. Prints the four lines of the morning; a difference goes to standard error, and ends the program with 1. */
+/* The morning of R11.3 over include/tickets.h: by the calls over a tickets_service, and again by the plain calls. Every answer is compared
+ * with the bytes that the rules give. Prints the four lines of the morning; a difference goes to standard error, and ends the program with
+ * 1. */
 #include <stdio.h>
 #include <stdlib.h>
 #include <string.h>
@@ -93,7 +94,7 @@ static void put_counted(request *to, const void *bytes, size_t length)
     put(to, bytes, length);
 }
 
-/* W2: kind 3 for `tech`, with ticket 0. */
+/* W2: with ticket 0, kind 3 for `tech`. */
 static request w2(void)
 {
     request made = {{0}, 0};
@@ -103,7 +104,7 @@ static request w2(void)
     return made;
 }
 
-/* W3 and W4: kind 4 to `store`, with tickets 0 and 1, options CNAME-IN-ADDL-TKT. */
+/* W3 and W4: with ticket 0 as TGT and ticket 1 as evidence, kind 4 to `store`; the option is CNAME-IN-ADDL-TKT. */
 static request w3(void)
 {
     request made = {{0}, 0};

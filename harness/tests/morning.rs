@@ -1,5 +1,5 @@
 //! A C program over include/tickets.h: it is compiled without a warning, and prints the morning of
-//! document 01.
+//! R11.3.
 
 use std::path::Path;
 use std::process::Command;

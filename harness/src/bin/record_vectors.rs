@@ -1,8 +1,9 @@
-//! Vectors over the record layer: document 01, sections "Ticket records" and "Requests", and the
-//! records of "Hops and a morning". `record_vectors stdin` prints them, one a line, in the forms that
-//! the head of crates/record_vectors/src/main.rt gives; `record_vectors stdout` prints each with the
-//! answer of this implementation.
+//! Vectors over the record layer (R3.1 to R3.8, R4.1 to R4.6), with the morning's records and requests
+//! (R11.3) among them. `record_vectors stdin` prints them, one a line, in the forms that the head of
+//! crates/record_vectors/src/main.rt gives; `record_vectors stdout` prints each with the answer of
+//! this implementation.
 
+use harness::limits::{LONGEST_RECORD, TRAIL_LIMIT};
 use harness::record::{
     read_request, read_ticket, write_ticket, Kind, Origin, Request, Ticket, Trail, NO_TRAIL,
 };
@@ -12,10 +13,10 @@ use std::fmt;
 use std::io::{self, BufWriter, Write};
 use std::{env, iter};
 
-/// The eight maps of a ticket record.
+/// R3.3: the eight maps of a ticket record.
 const TICKET_MAPS: [u16; 8] = [0x0037, 0x0237, 0x007F, 0x027F, 0x047F, 0x067F, 0x01FF, 0x03FF];
 
-/// The bytes of the ticket fields 0 to 7, by map bit.
+/// R3.2: the bytes of the ticket fields 0 to 7, by map bit.
 const TICKET_WIDTHS: [usize; 8] = [2, 4, 1, 1, 4, 4, 2, 2];
 
 /// Records that are odd and readable: start after end; number 65535; all flags; back numbers above
@@ -26,6 +27,10 @@ const ODD_TICKETS: [&[u8]; 4] = [
     b"\x04\x7f\x00\x01\xff\xff\xff\xff\x00\x01\x00\x00\x03\xf2\x00\x00\x90\x88\x00\x00",
     b"\x01\xff\x00\x02\x40\x00\x00\x00\x00\x02\x00\x00\x03\xfc\x00\x00\x90\x88\xff\xfe\xff\xff\x01\x01",
 ];
+
+/// The trail's count where it is full, and the bytes of an output that is just long enough.
+const FULL: u8 = TRAIL_LIMIT as u8;
+const ROOM: u8 = LONGEST_RECORD as u8;
 
 /// A call of the record layer.
 enum Vector {
@@ -84,12 +89,12 @@ fn origin_parts(origin: Origin) -> (u8, &'static str, u16, u16) {
     match origin {
         Origin::Initial => (0, "initial", 0, 0),
         Origin::Direct { tgt } => (1, "direct", tgt, 0),
-        Origin::SelfIssued { tgt } => (2, "self", tgt, 0),
+        Origin::S4U2self { tgt } => (2, "self", tgt, 0),
         Origin::Delegated { tgt, evidence } => (3, "delegated", tgt, evidence),
     }
 }
 
-/// The 31 bytes of a ticket value.
+/// The bytes of a ticket value, as many for every value.
 fn value(ticket: &Ticket) -> Vec<u8> {
     let (origin, _, tgt, evidence) = origin_parts(ticket.origin);
     [
@@ -163,8 +168,8 @@ fn request_answer(bytes: &[u8]) -> String {
     let (kind, tgt, evidence, user, service) = match kind {
         Kind::Initial { user } => (1, 0, 0, Some(user), None),
         Kind::Direct { tgt, service } => (2, tgt.number, 0, None, Some(service)),
-        Kind::S4u2self { tgt, user } => (3, tgt.number, 0, Some(user), None),
-        Kind::S4u2proxy { tgt, evidence, service } => {
+        Kind::S4U2self { tgt, user } => (3, tgt.number, 0, Some(user), None),
+        Kind::S4U2proxy { tgt, evidence, service } => {
             (4, tgt.number, evidence.number, None, Some(service))
         }
     };
@@ -206,7 +211,7 @@ fn counting_record(map: u16, hops: u8) -> Vec<u8> {
 }
 
 fn longest_record(map: u16) -> Vec<u8> {
-    counting_record(map, 8)
+    counting_record(map, FULL)
 }
 
 /// Every shorter part of the bytes, and the bytes with one more.
@@ -224,7 +229,7 @@ fn flips(bytes: &[u8]) -> impl Iterator<Item = Vec<u8>> + '_ {
 /// A record that reads: its ticket, the ticket written, and the record cut and lengthened.
 fn add_record(vectors: &mut Vec<Vector>, record: &[u8]) {
     vectors.push(Vector::Ticket(record.to_vec()));
-    let sizes = [31, 30, 40];
+    let sizes = [ROOM, ROOM - 1, 40];
     vectors.extend(sizes.map(|size| Vector::Write(size, record.to_vec())));
     vectors.extend(cuts(record).map(Vector::Ticket));
 }
@@ -238,14 +243,15 @@ fn add_records(vectors: &mut Vec<Vector>) {
     for record in [TICKET_0, TICKET_1, TICKET_2].iter().chain(&ODD_TICKETS) {
         add_record(vectors, record);
     }
-    add_record(vectors, &record(0x03FF, iter::repeat(0xFF), 8));
+    add_record(vectors, &record(0x03FF, iter::repeat(0xFF), FULL));
 }
 
-/// Trails of no, nine and 255 accounts, and maps that no origin has; then each map of the named bits
+/// Trails of no, nine and 255 accounts, and maps that no origin has; then each map of the fields' bits
 /// with the fields that it calls for.
 fn add_refused_records(vectors: &mut Vec<Vector>) {
     for map in [0x01FF, 0x03FF] {
-        vectors.extend([0, 9, 255].map(|hops| Vector::Ticket(counting_record(map, hops))));
+        vectors
+            .extend([0, FULL + 1, u8::MAX].map(|hops| Vector::Ticket(counting_record(map, hops))));
     }
     let maps = [0x0637, 0x0437, 0x05FF, 0x0B7F];
     vectors.extend(maps.map(|map| Vector::Ticket(longest_record(map))));
@@ -272,27 +278,27 @@ const FULL_TRAIL: Trail = [1, 2, 3, 4, 5, 6, 7, 8];
 /// A trail of two accounts with a stale byte after them.
 const STALE_TRAIL: Trail = [1, 2, 3, 0, 0, 0, 0, 0];
 const DIRECT: Origin = Origin::Direct { tgt: 0x0506 };
-const SELF: Origin = Origin::SelfIssued { tgt: 0x0506 };
+const S4U2SELF: Origin = Origin::S4U2self { tgt: 0x0506 };
 const DELEGATED: Origin = Origin::Delegated { tgt: 0x0506, evidence: 0x0708 };
 
-/// Ticket values that the reader never gives, and two that it gives, written to outputs that are
-/// large enough and too small.
+/// R3.6: ticket values without a record, and two with one, written to outputs that are large enough
+/// and too small.
 fn add_values(vectors: &mut Vec<Vector>) {
     let initial = made_ticket(Origin::Initial, 0, NO_TRAIL);
     let refused = [
         Ticket { service: 1, ..initial },
         made_ticket(Origin::Initial, 1, [5, 0, 0, 0, 0, 0, 0, 0]),
         made_ticket(DIRECT, 1, NO_TRAIL),
-        made_ticket(SELF, 0, [0, 0, 0, 0, 0, 0, 0, 9]),
+        made_ticket(S4U2SELF, 0, [0, 0, 0, 0, 0, 0, 0, 9]),
         made_ticket(DELEGATED, 0, NO_TRAIL),
-        made_ticket(DELEGATED, 9, FULL_TRAIL),
+        made_ticket(DELEGATED, FULL + 1, FULL_TRAIL),
         made_ticket(DELEGATED, 2, STALE_TRAIL),
     ];
     for ticket in refused {
-        vectors.extend([31, 30].map(|size| Vector::Value(size, ticket)));
+        vectors.extend([ROOM, ROOM - 1].map(|size| Vector::Value(size, ticket)));
     }
-    for ticket in [initial, made_ticket(DELEGATED, 8, FULL_TRAIL)] {
-        vectors.extend([0, 30, 31, 32].map(|size| Vector::Value(size, ticket)));
+    for ticket in [initial, made_ticket(DELEGATED, FULL, FULL_TRAIL)] {
+        vectors.extend([0, ROOM - 1, ROOM, ROOM + 1].map(|size| Vector::Value(size, ticket)));
     }
 }
 
@@ -303,15 +309,15 @@ fn single_trails() -> impl Iterator<Item = Trail> {
         trail[place] = 1;
         trail
     };
-    iter::once(NO_TRAIL).chain((0..8).map(single))
+    iter::once(NO_TRAIL).chain((0..TRAIL_LIMIT).map(single))
 }
 
 /// Each origin with each length of the trail, and with each of these trails.
 fn add_trails(vectors: &mut Vec<Vector>) {
-    for origin in [Origin::Initial, DIRECT, SELF, DELEGATED] {
-        for hops in 0..=9 {
+    for origin in [Origin::Initial, DIRECT, S4U2SELF, DELEGATED] {
+        for hops in 0..=FULL + 1 {
             let tickets = single_trails().map(|trail| made_ticket(origin, hops, trail));
-            vectors.extend(tickets.map(|ticket| Vector::Value(31, ticket)));
+            vectors.extend(tickets.map(|ticket| Vector::Value(ROOM, ticket)));
         }
     }
 }
@@ -333,22 +339,22 @@ fn altered_copies(ticket: Ticket) -> [Ticket; 19] {
         Ticket { start: start ^ 0x8000_0000, ..ticket },
         Ticket { end: end ^ 1, ..ticket },
         Ticket { end: end ^ 0x8000_0000, ..ticket },
-        Ticket { origin: SELF, ..ticket },
+        Ticket { origin: S4U2SELF, ..ticket },
         Ticket { origin: delegated(0x0507, 0x0708), ..ticket },
         Ticket { origin: delegated(0x8506, 0x0708), ..ticket },
         Ticket { origin: delegated(0x0506, 0x0709), ..ticket },
         Ticket { origin: delegated(0x0506, 0x8708), ..ticket },
-        Ticket { hops: 7, ..ticket },
+        Ticket { hops: FULL - 1, ..ticket },
         Ticket { barred: true, ..ticket },
     ]
 }
 
 /// A ticket against itself, and against copies with one field or one place of the trail altered.
 fn add_comparisons(vectors: &mut Vec<Vector>) {
-    let ticket = made_ticket(DELEGATED, 8, FULL_TRAIL);
+    let ticket = made_ticket(DELEGATED, FULL, FULL_TRAIL);
     vectors.push(Vector::Same(ticket, ticket));
     vectors.extend(altered_copies(ticket).map(|copy| Vector::Same(ticket, copy)));
-    for place in 0..8 {
+    for place in 0..TRAIL_LIMIT {
         let mut copy = ticket;
         copy.trail[place] ^= 0x80;
         vectors.push(Vector::Same(ticket, copy));
@@ -359,22 +365,26 @@ fn add_comparisons(vectors: &mut Vec<Vector>) {
 
 /// Tickets of each origin against one another, alike but for the origin.
 fn add_origin_comparisons(vectors: &mut Vec<Vector>) {
-    let ticket = made_ticket(SELF, 0, NO_TRAIL);
+    let ticket = made_ticket(S4U2SELF, 0, NO_TRAIL);
     let tickets = [
         Origin::Initial,
         DIRECT,
         Origin::Direct { tgt: 0x0507 },
-        SELF,
-        Origin::SelfIssued { tgt: 0x0507 },
+        S4U2SELF,
+        Origin::S4U2self { tgt: 0x0507 },
         DELEGATED,
     ]
-    .map(|origin| Ticket { origin, ..ticket });
+    .map(|origin| {
+        let mut copy = ticket;
+        copy.origin = origin;
+        copy
+    });
     for left in tickets {
         vectors.extend(tickets.map(|right| Vector::Same(left, right)));
     }
 }
 
-/// W2: kind 3 for `tech`, with this TGT field.
+/// W2: with this TGT field, kind 3 for `tech`.
 fn w2_with(tgt: &[u8]) -> Vec<u8> {
     [b"\x00\x51\x03", tgt, &counted(b"tech")].concat()
 }

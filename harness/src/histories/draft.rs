@@ -1,6 +1,7 @@
 //! The fields of a request before they are put into bytes, and the fields of one that was read.
 
-use crate::record::{read_request, write_ticket, Kind, Request, Ticket, LONGEST_RECORD};
+use crate::limits::LONGEST_RECORD;
+use crate::record::{read_request, write_ticket, Kind, Request, Ticket};
 use crate::samples::counted;
 use std::fmt;
 
@@ -48,10 +49,10 @@ impl Draft {
             Kind::Direct { tgt, service } => {
                 Draft { kind: 2, tgt: record(&tgt)?, service: service.to_vec(), ..draft }
             }
-            Kind::S4u2self { tgt, user } => {
+            Kind::S4U2self { tgt, user } => {
                 Draft { kind: 3, tgt: record(&tgt)?, user: user.to_vec(), ..draft }
             }
-            Kind::S4u2proxy { tgt, evidence, service } => Draft {
+            Kind::S4U2proxy { tgt, evidence, service } => Draft {
                 kind: 4,
                 tgt: record(&tgt)?,
                 evidence: record(&evidence)?,
@@ -73,29 +74,29 @@ pub fn record(ticket: &Ticket) -> Option<Vec<u8>> {
 pub fn presented<'a>(request: &'a Request) -> (Option<&'a Ticket>, Option<&'a Ticket>) {
     match &request.kind {
         Kind::Initial { .. } => (None, None),
-        Kind::Direct { tgt, .. } | Kind::S4u2self { tgt, .. } => (Some(tgt), None),
-        Kind::S4u2proxy { tgt, evidence, .. } => (Some(tgt), Some(evidence)),
+        Kind::Direct { tgt, .. } | Kind::S4U2self { tgt, .. } => (Some(tgt), None),
+        Kind::S4U2proxy { tgt, evidence, .. } => (Some(tgt), Some(evidence)),
     }
 }
 
 /// The fields of a request, by name.
-pub struct Readable<'a>(pub &'a Request<'a>);
+pub struct RequestText<'a>(pub &'a Request<'a>);
 
-impl fmt::Display for Readable<'_> {
+impl fmt::Display for RequestText<'_> {
     fn fmt(&self, f: &mut fmt::Formatter) -> fmt::Result {
         let Request { options, pac_options, till, kind } = self.0;
         let (name, named) = match kind {
             Kind::Initial { user } => ("initial for", user),
             Kind::Direct { service, .. } => ("direct to", service),
-            Kind::S4u2self { user, .. } => ("self for", user),
-            Kind::S4u2proxy { service, .. } => ("proxy to", service),
+            Kind::S4U2self { user, .. } => ("S4U2self for", user),
+            Kind::S4U2proxy { service, .. } => ("S4U2proxy to", service),
         };
         write!(f, "{name} \"{}\", options {options:#x}", named.escape_ascii())?;
         write!(f, ", PAC options {pac_options:#x}, till {till}")?;
         let (tgt, evidence) = presented(self.0);
         for (what, ticket) in [("TGT", tgt), ("evidence", evidence)] {
             if let Some(ticket) = ticket {
-                write!(f, "\n       {what} {}", Shown(ticket))?;
+                write!(f, "\n       {what} {}", TicketText(ticket))?;
             }
         }
         Ok(())
@@ -103,9 +104,9 @@ impl fmt::Display for Readable<'_> {
 }
 
 /// The fields of a ticket, by name.
-pub struct Shown<'a>(pub &'a Ticket);
+pub struct TicketText<'a>(pub &'a Ticket);
 
-impl fmt::Display for Shown<'_> {
+impl fmt::Display for TicketText<'_> {
     fn fmt(&self, f: &mut fmt::Formatter) -> fmt::Result {
         let Ticket { number, flags, client, service, start, end, origin, .. } = self.0;
         write!(f, "{number}: {origin:?} client {client} service {service} flags {flags:#x}")?;

@@ -7,8 +7,9 @@ use crate::accounts::{Account, BARRED, DISABLED, SERVICE, TRUSTED};
 use crate::decisions::{
     classic_route, resource_route, CNAME_IN_ADDL_TKT, FORWARDABLE, RESOURCE_BASED,
 };
+use crate::limits::{ACCOUNT_LIMIT, LAST_SECOND, LONGEST_RECORD};
 use crate::random::Random;
-use crate::record::{Origin, Ticket};
+use crate::record::{Origin, Principal, Ticket};
 use crate::service::Service;
 use crate::words;
 
@@ -22,7 +23,7 @@ const NAMES: [&str; 16] = [
 /// The kinds of requests, each as often as it is asked for.
 const KINDS: [u8; 12] = [1, 1, 2, 2, 3, 3, 4, 4, 4, 4, 4, 4];
 
-/// The map bits that each kind needs, and those that it may have besides.
+/// R4.2: the map bits that each kind needs, and those that it may have besides.
 const MAPS: [(u16, u16); 4] = [(0x41, 0x0A), (0x91, 0x0A), (0x51, 0x0A), (0xB3, 0x0C)];
 
 /// Lifetimes of accounts, each as often as it is given.
@@ -30,7 +31,11 @@ const LIFETIMES: [u32; 12] =
     [36_000, 36_000, 36_000, 36_000, 90_000, 90_000, 3_600, 600, 60, 1, 0, u32::MAX];
 
 /// Where a clock begins.
-const BEGINNINGS: [u32; 6] = [0, 1_000, 1_000, 1_700_000_000, u32::MAX - 40_000, u32::MAX - 400];
+const BEGINNINGS: [u32; 6] =
+    [0, 1_000, 1_000, 1_700_000_000, LAST_SECOND - 40_000, LAST_SECOND - 400];
+
+/// The longest output of a request.
+const LONGEST_OUTPUT: usize = 64;
 
 /// What a history is like.
 struct Style {
@@ -53,7 +58,7 @@ impl Style {
     fn new(random: &mut Random) -> Self {
         let long = random.once_in(5);
         Self {
-            accounts: random.pick(&[3, 5, 8, 16, 64]),
+            accounts: random.pick(&[3, 5, 8, 16, ACCOUNT_LIMIT]),
             edits: if long { random.pick(&[20, 60]) } else { random.pick(&[3, 6, 12, 40]) },
             odd: if long { random.pick(&[40, 120]) } else { random.pick(&[6, 15, 40]) },
             step: random.pick(&[1, 2, 10, 100]),
@@ -100,7 +105,7 @@ impl Generator {
     fn other_start(&mut self) -> Box<crate::library::Service> {
         if self.random.once_in(2) {
             self.now = invented::NOW;
-            self.style.accounts = 64;
+            self.style.accounts = ACCOUNT_LIMIT;
             return invented::words(&mut self.random);
         }
         self.first_edits();
@@ -134,7 +139,7 @@ impl Generator {
             let _ = self.service.edit(&edit);
         } else if let Call::Request { request, clock, output } = &call {
             // So it is with a request.
-            let _ = self.service.request(request, *clock, &mut [0; 64][..*output]);
+            let _ = self.service.request(request, *clock, &mut [0; LONGEST_OUTPUT][..*output]);
         }
         self.calls.push(call);
     }
@@ -145,14 +150,15 @@ impl Generator {
     }
 
     /// The number of an account in use.
-    fn number(&mut self) -> u8 {
-        self.random.below(self.style.accounts) as u8
+    fn number(&mut self) -> Principal {
+        self.random.below(self.style.accounts) as Principal
     }
 
     /// An account in use that passes the test, or any.
-    fn number_with(&mut self, test: impl Fn(&Service, u8) -> bool) -> u8 {
-        let passing: Vec<u8> =
-            (0..self.style.accounts as u8).filter(|&n| test(&self.service, n)).collect();
+    fn number_with(&mut self, test: impl Fn(&Service, Principal) -> bool) -> Principal {
+        let numbers = 0..self.style.accounts as Principal;
+        let passing: Vec<Principal> =
+            numbers.filter(|&number| test(&self.service, number)).collect();
         if passing.is_empty() || self.odd() {
             self.number()
         } else {
@@ -163,17 +169,16 @@ impl Generator {
     /// A ticket that passes the test, if one is held; mostly the first of its number.
     fn ticket_with(&mut self, test: impl Fn(&Service, &Ticket) -> bool) -> Option<Ticket> {
         let held = self.service.held();
-        let passing: Vec<u16> = (0..held.len() as u16)
-            .filter(|&n| test(&self.service, &held[usize::from(n)]))
-            .collect();
+        let passing: Vec<usize> =
+            (0..held.len()).filter(|&place| test(&self.service, &held[place])).collect();
         if passing.is_empty() {
             return None;
         }
-        let ticket = self.service.held()[usize::from(self.random.pick(&passing))];
+        let ticket = held[self.random.pick(&passing)];
         if self.odd() {
             Some(ticket)
         } else {
-            self.service.ticket(ticket.number).copied()
+            self.service.first_held(ticket.number).copied()
         }
     }
 
@@ -185,7 +190,7 @@ impl Generator {
         if self.style.open {
             return self.random.pick(&[u64::MAX, a | b, a, a, a & b, 0]);
         }
-        self.random.pick(&[0, 0, a & b, a & b & c, a, 1 << (a % 64)])
+        self.random.pick(&[0, 0, a & b, a & b & c, a, 1 << (a % ACCOUNT_LIMIT as u64)])
     }
 
     /// Flags of an account that is new.
@@ -235,7 +240,7 @@ impl Generator {
     }
 
     /// The account with one of its parts changed. A disabled one is mostly enabled.
-    fn changed_account(&mut self, number: u8, mut account: Account) -> Call {
+    fn changed_account(&mut self, number: Principal, mut account: Account) -> Call {
         match self.random.below(12) {
             _ if account.flags & DISABLED != 0 && !self.random.once_in(4) => {
                 account.flags ^= DISABLED;
@@ -259,7 +264,7 @@ impl Generator {
     // ---- Requests.
 
     /// The name of an account, its letters in some case; a name of nobody where it is not set.
-    fn name_of(&mut self, number: u8) -> Vec<u8> {
+    fn name_of(&mut self, number: Principal) -> Vec<u8> {
         match self.service.table.account(number).copied() {
             Some(account) => odd::letter_case(&mut self.random, account.name()),
             None => odd::good_name(&mut self.random),
@@ -267,7 +272,7 @@ impl Generator {
     }
 
     /// The name of an account as a request has it.
-    fn asked_name(&mut self, number: u8) -> Vec<u8> {
+    fn asked_name(&mut self, number: Principal) -> Vec<u8> {
         let name = self.name_of(number);
         if self.odd() {
             odd::name(&mut self.random, name)
@@ -323,13 +328,17 @@ impl Generator {
         }
         let end = presented.first().map_or(0, |tgt| tgt.end);
         let later = clock.saturating_add(self.random.below(50_000) as u32);
-        self.random.pick(&[0, 0, 0, later, end, end.saturating_sub(1), u32::MAX])
+        self.random.pick(&[0, 0, 0, later, end, end.saturating_sub(1), LAST_SECOND])
     }
 
     /// The output's length.
     fn output(&mut self) -> usize {
-        let lengths: [usize; 5] =
-            if self.odd() { [0, 1, 30, 30, 17] } else { [31, 31, 32, 40, 64] };
+        let (short, enough) = (LONGEST_RECORD - 1, LONGEST_RECORD);
+        let lengths = if self.odd() {
+            [0, 1, short, short, 17]
+        } else {
+            [enough, enough, enough + 1, 40, LONGEST_OUTPUT]
+        };
         self.random.pick(&lengths)
     }
 
@@ -341,7 +350,7 @@ impl Generator {
             return self.valid_clock(presented);
         }
         match self.random.below(8) {
-            0 => self.random.pick(&[0, 1, u32::MAX - 1, u32::MAX]),
+            0 => self.random.pick(&[0, 1, LAST_SECOND - 1, LAST_SECOND]),
             1 => self.random.word() as u32,
             2 => {
                 let jump = self.random.below(40_000) as u32;
@@ -369,7 +378,7 @@ impl Generator {
     /// The time now, or half the time, where the tickets are not valid then, one at which they are.
     fn valid_clock(&mut self, presented: &[Ticket]) -> u32 {
         let start = presented.iter().map(|ticket| ticket.start).max().unwrap_or(0);
-        let end = presented.iter().map(|ticket| ticket.end).min().unwrap_or(u32::MAX);
+        let end = presented.iter().map(|ticket| ticket.end).min().unwrap_or(LAST_SECOND);
         if (start..end).contains(&self.now) || start >= end || self.random.once_in(2) {
             return self.now;
         }
@@ -379,12 +388,9 @@ impl Generator {
     /// The record of a ticket as it is presented: the ticket itself, or one that is altered.
     fn present(&mut self, ticket: Ticket, presented: &mut Vec<Ticket>) -> Vec<u8> {
         presented.push(ticket);
-        let shown = if self.odd() { odd::ticket(&mut self.random, ticket) } else { ticket };
-        match record(&shown) {
-            Some(record) => record,
-            // No record reads as this ticket: what comes nearest is presented.
-            None => odd::nearest_record(&shown),
-        }
+        let ticket = if self.odd() { odd::ticket(&mut self.random, ticket) } else { ticket };
+        // Where no record reads as the ticket, what comes nearest is presented.
+        record(&ticket).unwrap_or_else(|| odd::nearest_record(&ticket))
     }
 
     /// A ticket of any kind, in place of one that fits.
@@ -393,7 +399,7 @@ impl Generator {
     }
 
     /// A TGT whose client passes the test, mostly valid and of an enabled client.
-    fn tgt_with(&mut self, test: impl Fn(&Service, u8) -> bool) -> Option<Ticket> {
+    fn tgt_with(&mut self, test: impl Fn(&Service, Principal) -> bool) -> Option<Ticket> {
         if self.odd() {
             return self.any_ticket();
         }
@@ -407,9 +413,8 @@ impl Generator {
     }
 
     /// A request for an initial ticket, of this user or some other.
-    fn initial(&mut self, user: Option<u8>) -> Draft {
-        let enabled = |service: &Service, number| !service.table.is_disabled(number);
-        let user = user.unwrap_or_else(|| self.number_with(enabled));
+    fn initial(&mut self, user: Option<Principal>) -> Draft {
+        let user = user.unwrap_or_else(|| self.number_with(is_enabled));
         Draft { kind: 1, user: self.asked_name(user), ..Draft::default() }
     }
 
@@ -423,13 +428,13 @@ impl Generator {
         Draft { kind: 2, tgt, service: self.asked_name(service), ..Draft::default() }
     }
 
-    /// A request for a self ticket.
+    /// A request for an S4U2self ticket.
     fn s4u2self(&mut self, presented: &mut Vec<Ticket>) -> Draft {
         let Some(tgt) = self.tgt_with(|service, client| service.table.is_service(client)) else {
             return self.initial(None);
         };
         let tgt = self.present(tgt, presented);
-        let user = self.number_with(|service, number| !service.table.is_disabled(number));
+        let user = self.number_with(is_enabled);
         Draft { kind: 3, tgt, user: self.asked_name(user), ..Draft::default() }
     }
 
@@ -455,7 +460,7 @@ impl Generator {
         let Some(evidence) = self.evidence() else {
             return self.direct(presented);
         };
-        let any = evidence.service > 63 || self.odd();
+        let any = usize::from(evidence.service) >= ACCOUNT_LIMIT || self.odd();
         let Some(tgt) = self.tgt_with(|_, client| any || client == evidence.service) else {
             return self.initial(Some(evidence.service));
         };
@@ -485,7 +490,12 @@ fn is_valid(ticket: &Ticket, now: u32) -> bool {
     (ticket.start..ticket.end).contains(&now)
 }
 
+/// Whether an account may be named as a user.
+fn is_enabled(service: &Service, number: Principal) -> bool {
+    service.table.is_enabled(number)
+}
+
 /// Whether an account may be named as a service.
-fn is_open_service(service: &Service, number: u8) -> bool {
-    service.table.is_service(number) && !service.table.is_disabled(number)
+fn is_open_service(service: &Service, number: Principal) -> bool {
+    service.table.is_service(number) && service.table.is_enabled(number)
 }

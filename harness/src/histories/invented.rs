@@ -1,17 +1,32 @@
 //! Words that no calls make: invented from random numbers, or those of a service with some changed.
 
 use crate::library;
-use crate::random::Random;
-use crate::service::{Service, PLACES};
-use crate::words::{
-    place_at, row_at, store_account, store_ticket, ACCOUNT_WORDS, LEDGER_WORDS, PLACE, ROW,
+use crate::limits::{
+    ACCOUNTS_SIZE, ACCOUNT_LIMIT, LEDGER_SIZE, NAME_LIMIT, PLACE_SIZE, ROW_SIZE, TICKET_LIMIT,
+    TRAIL_LIMIT,
 };
+use crate::random::Random;
+use crate::service::Service;
+use crate::words::{place_at, row_at, store_account, store_ticket};
 
 /// A time at which many of the invented tickets are valid.
 pub const NOW: u32 = 1_000;
 
+/// The limits as bytes, and as a word.
+const TRAIL: u8 = TRAIL_LIMIT as u8;
+const NAME: u8 = NAME_LIMIT as u8;
+const ACCOUNT: u8 = ACCOUNT_LIMIT as u8;
+const TICKETS: u64 = TICKET_LIMIT as u64;
+
+/// The bits of a word.
+const WORD_BITS: usize = u64::BITS as usize;
+
 /// Bytes for the fields of one byte: those that a field may have, and their neighbours.
-const BYTES: [u8; 16] = [0, 1, 2, 3, 4, 5, 7, 8, 9, 23, 24, 25, 63, 64, 128, 255];
+#[rustfmt::skip]
+const BYTES: [u8; 16] = [
+    0, 1, 2, 3, 4, 5, TRAIL - 1, TRAIL, TRAIL + 1,
+    NAME - 1, NAME, NAME + 1, ACCOUNT - 1, ACCOUNT, 128, 255,
+];
 
 /// Random words: all of them, few of them, or such as stand for plausible accounts and tickets.
 pub fn words(random: &mut Random) -> Box<library::Service> {
@@ -23,7 +38,7 @@ pub fn words(random: &mut Random) -> Box<library::Service> {
         _ => plausible(random, &mut words),
     }
     if random.once_in(2) {
-        words.ledger[0] = random.below(PLACES) as u64;
+        words.ledger[0] = random.below(TICKET_LIMIT) as u64;
     }
     words
 }
@@ -31,7 +46,7 @@ pub fn words(random: &mut Random) -> Box<library::Service> {
 /// Plausible words whose tickets mostly go back to the one before them.
 fn chain(random: &mut Random, words: &mut library::Service) {
     plausible(random, words);
-    for (number, place) in (0..).zip(words.ledger[1..].chunks_exact_mut(PLACE)) {
+    for (number, place) in (0..).zip(words.ledger[1..].chunks_exact_mut(PLACE_SIZE)) {
         place[0] = place[0] & !0xFFFF | number;
         if number > 0 && !random.once_in(200) {
             let tag = random.pick(&[1, 2, 3]);
@@ -48,36 +63,39 @@ fn each(words: &mut library::Service, mut change: impl FnMut(&mut u64)) {
 /// Accounts with short names of few letters, some of them the same, and tickets whose parts are
 /// small numbers.
 fn plausible(random: &mut Random, words: &mut library::Service) {
-    for row in words.accounts.chunks_exact_mut(ROW) {
+    for row in words.accounts.chunks_exact_mut(ROW_SIZE) {
         let name: Vec<u8> = (0..8).map(|_| random.pick(b"abAB[{@\x00\xE1")).collect();
         row[0] = u64::from_le_bytes(name.try_into().expect("eight bytes"));
-        let length = random.pick(&[0, 1, 2, 3, 4, 5, 6, 7, 8, 24, 25, 255]);
+        let length = random.pick(&[0, 1, 2, 3, 4, 5, 6, 7, 8, NAME, NAME + 1, u8::MAX]);
         let flags = random.pick(&[8, 8, 12, 12, 10, 9, 0, 0xF8]);
         let spare = if random.once_in(4) { random.word() & 0xFFFF_0000 } else { 0 };
-        row[3] = length | flags << 8 | spare | random.pick(&[0, 100, 36_000]) << 32;
+        row[3] = u64::from(length) | flags << 8 | spare | random.pick(&[0, 100, 36_000]) << 32;
         row[4] = random.word();
         row[5] = random.word();
     }
-    let numbers = random.pick(&[8, 64, 512, 512]);
-    let accounts = random.pick(&[4, 8, 16, 64]);
-    words.ledger[0] = random.pick(&[511, 512, 513, 1_000, 1 << 32, u64::MAX]);
-    for place in words.ledger[1..].chunks_exact_mut(PLACE) {
+    let numbers = random.pick(&[8, 64, TICKET_LIMIT, TICKET_LIMIT]);
+    let accounts = random.pick(&[4, 8, 16, ACCOUNT_LIMIT]);
+    let counts = [TICKETS - 1, TICKETS, TICKETS + 1, 1_000, 1 << 32, u64::MAX];
+    words.ledger[0] = random.pick(&counts);
+    for place in words.ledger[1..].chunks_exact_mut(PLACE_SIZE) {
         plausible_ticket(random, numbers, accounts, place);
     }
 }
 
-/// A ticket whose numbers and accounts are below these; one account in sixteen is above 63.
+/// A ticket whose numbers and accounts are below these; one account in sixteen is beyond the limit.
 fn plausible_ticket(random: &mut Random, numbers: usize, accounts: usize, words: &mut [u64]) {
     let mut number = |limit: usize| random.below(limit) as u64;
     let (own, tgt, evidence) = (number(numbers), number(numbers), number(numbers));
-    let mut account = || if number(16) == 0 { 64 + number(4) } else { number(accounts) };
+    let beyond = u64::from(ACCOUNT);
+    let mut account = || if number(16) == 0 { beyond + number(4) } else { number(accounts) };
     let (client, service) = (account(), account());
     let (start, end) = (number(2 * NOW as usize), number(4 * NOW as usize));
     let tag = random.pick(&[0, 0, 0, 1, 2, 3, 3, 4, 255]);
     let service = if tag == 0 && !random.once_in(8) { 0 } else { service };
     let mark = random.pick(&[0, 0, 1, 1, 2, 255]);
-    let hops = if tag > 2 { random.pick(&[0, 1, 2, 7, 7, 8, 8, 9, 255]) } else { 0 };
-    let kept = if random.once_in(8) { 64 } else { 8 * hops.min(8) as u32 };
+    let counts = [0, 1, 2, TRAIL - 1, TRAIL - 1, TRAIL, TRAIL, TRAIL + 1, u8::MAX];
+    let hops = u64::from(if tag > 2 { random.pick(&counts) } else { 0 });
+    let kept = if random.once_in(8) { u64::BITS } else { 8 * hops.min(TRAIL.into()) as u32 };
     let flags = random.pick(&[0x4000_0000, 0x4000_0000, 0x0040_0000, 0, 0xFFFF_FFFF]);
     words[0] = own | client << 16 | service << 24 | flags << 32;
     words[1] = start | end << 32;
@@ -95,27 +113,27 @@ pub fn changed(random: &mut Random, service: &Service) -> Box<library::Service> 
         }
     }
     service.held().iter().for_each(|ticket| store_ticket(&mut words.ledger, ticket));
-    let held = service.held().len().max(1);
+    let count = service.held().len().max(1);
     if random.once_in(2) {
-        change_half(random, &mut words, held);
+        change_half(random, &mut words, count);
     } else {
         let changes = random.pick(&[1, 4, 24, 100, 400]);
-        (0..changes).for_each(|_| change(random, &mut words, held));
+        (0..changes).for_each(|_| change(random, &mut words, count));
     }
     words
 }
 
-/// The same change of every other ticket: its mark, FORWARDABLE, its client or service to one above
-/// 63, start for end, or its tag.
-fn change_half(random: &mut Random, words: &mut library::Service, held: usize) {
+/// The same change of every other ticket: its mark, FORWARDABLE, its client or service to one beyond
+/// the limit, start for end, or its tag.
+fn change_half(random: &mut Random, words: &mut library::Service, count: usize) {
     let kind = random.below(6);
-    for place in words.ledger[1..].chunks_exact_mut(PLACE).take(held) {
+    for place in words.ledger[1..].chunks_exact_mut(PLACE_SIZE).take(count) {
         match kind {
             _ if random.once_in(2) => {}
             0 => place[2] ^= 1 << 8,
             1 => place[0] ^= 0x4000_0000 << 32,
-            2 => place[0] |= 64 << 16,
-            3 => place[0] |= 64 << 24,
+            2 => place[0] |= u64::from(ACCOUNT) << 16,
+            3 => place[0] |= u64::from(ACCOUNT) << 24,
             4 => place[1] = place[1].rotate_left(32),
             _ => place[2] ^= random.pick(&[1, 2, 3, 4]),
         }
@@ -123,21 +141,21 @@ fn change_half(random: &mut Random, words: &mut library::Service, held: usize) {
 }
 
 /// One change: of a row, of a place that is held, of both, or of the count.
-fn change(random: &mut Random, words: &mut library::Service, held: usize) {
-    let account = row_at(random.below(ACCOUNT_WORDS / ROW));
-    let place = place_at(random.below(held));
-    let other = place_at(random.below(held));
+fn change(random: &mut Random, words: &mut library::Service, count: usize) {
+    let account = row_at(random.below(ACCOUNT_LIMIT));
+    let place = place_at(random.below(count));
+    let other = place_at(random.below(count));
     match random.below(12) {
-        0 => words.accounts[random.below(ACCOUNT_WORDS)] = random.word(),
-        1 => words.ledger[1 + random.below(LEDGER_WORDS - 1)] = random.word(),
-        2 => words.accounts[account + random.below(ROW)] ^= 1 << random.below(64),
-        3 => words.ledger[place + random.below(PLACE)] ^= 1 << random.below(64),
+        0 => words.accounts[random.below(ACCOUNTS_SIZE)] = random.word(),
+        1 => words.ledger[1 + random.below(LEDGER_SIZE - 1)] = random.word(),
+        2 => words.accounts[account + random.below(ROW_SIZE)] ^= 1 << random.below(WORD_BITS),
+        3 => words.ledger[place + random.below(PLACE_SIZE)] ^= 1 << random.below(WORD_BITS),
         4 => {
-            let from = row_at(random.below(ACCOUNT_WORDS / ROW));
-            words.accounts.copy_within(from..from + ROW, account);
+            let from = row_at(random.below(ACCOUNT_LIMIT));
+            words.accounts.copy_within(from..from + ROW_SIZE, account);
         }
-        5 => words.ledger.copy_within(other..other + PLACE, place),
-        6 => words.ledger[0] = count(random, held),
+        5 => words.ledger.copy_within(other..other + PLACE_SIZE, place),
+        6 => words.ledger[0] = stored_count(random, count),
         7 => put_byte(random, &mut words.accounts[account + 3], &[0, 1, 2, 3]),
         8 => put_byte(random, &mut words.ledger[place + 2], &[0, 1, 2, 3, 4, 5, 6, 7]),
         9 => put_byte(random, &mut words.ledger[place], &[2, 3]),
@@ -146,10 +164,12 @@ fn change(random: &mut Random, words: &mut library::Service, held: usize) {
     }
 }
 
-/// A stored count: near the true one, near 512, or far above it.
-fn count(random: &mut Random, held: usize) -> u64 {
-    let held = held as u64;
-    random.pick(&[held - 1, held + 1, 0, 511, 512, 513, 768, 1 << 16, 1 << 32, u64::MAX])
+/// A stored count: near the true one, near the limit, or far above it.
+fn stored_count(random: &mut Random, count: usize) -> u64 {
+    let count = count as u64;
+    let near = [count - 1, count + 1, 0, TICKETS - 1, TICKETS, TICKETS + 1];
+    let far = [TICKETS + 256, 1 << 16, 1 << 32, u64::MAX];
+    random.pick(&[&near[..], &far].concat())
 }
 
 /// Sets one of the bytes of a word.

@@ -3,16 +3,23 @@
 use super::draft::{record, Draft};
 use super::Call;
 use crate::accounts::Account;
+use crate::limits::{ACCOUNT_LIMIT, NAME_LIMIT, TICKET_LIMIT, TRAIL_LIMIT};
 use crate::random::Random;
-use crate::record::{Origin, Ticket, NO_TRAIL};
+use crate::record::{Origin, Principal, Ticket, NO_TRAIL};
 
 /// The bytes at the edges of what a name may hold, and of the letters.
 const EDGES: &[u8] = b"\x00\x20\x21\x3f\x40\x41\x5a\x5b\x60\x61\x7a\x7b\x7e\x7f\x80\xc1\xe1\xff";
 
-/// A good name: 1 to 24 bytes, 0x21 to 0x7E without 0x40.
+/// The lowest number that no account has.
+const BEYOND: Principal = ACCOUNT_LIMIT as Principal;
+
+/// The most bytes that a length byte can count.
+const LONGEST_COUNTED: usize = u8::MAX as usize;
+
+/// R2.5: a good name.
 pub fn good_name(random: &mut Random) -> Vec<u8> {
-    let some = 1 + random.below(24);
-    let length = random.pick(&[1, 2, 8, 9, 16, 17, 23, 24, some]);
+    let some = 1 + random.below(NAME_LIMIT);
+    let length = random.pick(&[1, 2, 8, 9, 16, 17, NAME_LIMIT - 1, NAME_LIMIT, some]);
     let byte = |random: &mut Random| match 0x21 + random.below(0x5E) as u8 {
         0x40 => b'A',
         byte => byte,
@@ -40,12 +47,13 @@ pub fn name(random: &mut Random, mut name: Vec<u8>) -> Vec<u8> {
         4 => flip(random, &mut name, &[0x80, 0x01]),
         5 => name.push(random.pick(EDGES)),
         6 => {
-            let length = random.pick(&[24, 25, 26, 255]);
+            let length =
+                random.pick(&[NAME_LIMIT, NAME_LIMIT + 1, NAME_LIMIT + 2, LONGEST_COUNTED]);
             name.resize(length, b'a');
         }
         _ => name = good_name(random),
     }
-    name.truncate(255);
+    name.truncate(LONGEST_COUNTED);
     name
 }
 
@@ -61,11 +69,18 @@ pub fn alter_edit(random: &mut Random, call: &mut Call, other: Option<&Account>)
     let Call::Edit { number, name, flags, .. } = call else {
         return;
     };
+    let beyond = u32::from(BEYOND);
     match random.below(8) {
-        0 => *number = random.pick(&[64, 65, 127, 256, 256 + *number, 1 << 31, u32::MAX]),
+        0 => {
+            let numbers = [beyond, beyond + 1, 127, 256, 256 + *number, 1 << 31, u32::MAX];
+            *number = random.pick(&numbers);
+        }
         1 => *flags = random.pick(&[16, 17, 32, 128, 256, 256 + *flags, 1 << 31, u32::MAX]),
         2 => *name = self::name(random, std::mem::take(name)),
-        3 => name.resize(random.pick(&[0, 24, 25, 32, 256, 257]), b'x'),
+        3 => {
+            let length = random.pick(&[0, NAME_LIMIT, NAME_LIMIT + 1, 32, 256, 257]);
+            name.resize(length, b'x');
+        }
         4 if !name.is_empty() => {
             let at = random.below(name.len());
             name[at] = random.pick(EDGES);
@@ -81,16 +96,20 @@ pub fn alter_edit(random: &mut Random, call: &mut Call, other: Option<&Account>)
 
 /// The ticket with one field altered.
 pub fn ticket(random: &mut Random, mut ticket: Ticket) -> Ticket {
+    let full = TICKET_LIMIT as u16;
     match random.below(12) {
-        0 => ticket.number = random.pick(&[0, 1, ticket.number ^ 1, 511, 512, u16::MAX]),
+        0 => ticket.number = random.pick(&[0, 1, ticket.number ^ 1, full - 1, full, u16::MAX]),
         1 => ticket.flags ^= 1 << random.below(32),
-        2 => ticket.client = random.pick(&[ticket.client ^ 1, 63, 64, 255]),
-        3 => ticket.service = random.pick(&[ticket.service ^ 1, 63, 64, 255]),
+        2 => ticket.client = random.pick(&[ticket.client ^ 1, BEYOND - 1, BEYOND, u8::MAX]),
+        3 => ticket.service = random.pick(&[ticket.service ^ 1, BEYOND - 1, BEYOND, u8::MAX]),
         4 => ticket.start = ticket.start.wrapping_add(random.pick(&[1, u32::MAX])),
         5 => ticket.end = ticket.end.wrapping_add(random.pick(&[1, u32::MAX])),
         6 => ticket.barred = !ticket.barred,
-        7 => ticket.trail[usize::from(ticket.hops / 2 % 8)] ^= 1,
-        8 => ticket.hops = random.pick(&[ticket.hops ^ 1, ticket.hops.wrapping_add(1), 8]),
+        7 => ticket.trail[usize::from(ticket.hops / 2) % TRAIL_LIMIT] ^= 1,
+        8 => {
+            let counts = [ticket.hops ^ 1, ticket.hops.wrapping_add(1), TRAIL_LIMIT as u8];
+            ticket.hops = random.pick(&counts);
+        }
         9 => return other_origin(random, ticket),
         _ => ticket.origin = other_back_number(random, ticket.origin),
     }
@@ -103,7 +122,7 @@ fn other_back_number(random: &mut Random, origin: Origin) -> Origin {
     match origin {
         Origin::Initial => Origin::Direct { tgt: 0 },
         Origin::Direct { tgt } => Origin::Direct { tgt: other(tgt) },
-        Origin::SelfIssued { tgt } => Origin::SelfIssued { tgt: other(tgt) },
+        Origin::S4U2self { tgt } => Origin::S4U2self { tgt: other(tgt) },
         Origin::Delegated { tgt, evidence } if random.once_in(2) => {
             Origin::Delegated { tgt: other(tgt), evidence }
         }
@@ -115,14 +134,14 @@ fn other_back_number(random: &mut Random, origin: Origin) -> Origin {
 fn other_origin(random: &mut Random, ticket: Ticket) -> Ticket {
     let (tgt, evidence) = match ticket.origin {
         Origin::Initial => (0, 0),
-        Origin::Direct { tgt } | Origin::SelfIssued { tgt } => (tgt, 0),
+        Origin::Direct { tgt } | Origin::S4U2self { tgt } => (tgt, 0),
         Origin::Delegated { tgt, evidence } => (tgt, evidence),
     };
     let bare = Ticket { trail: NO_TRAIL, hops: 0, ..ticket };
     match random.below(4) {
         0 => Ticket { origin: Origin::Initial, service: 0, ..bare },
         1 => Ticket { origin: Origin::Direct { tgt }, ..bare },
-        2 => Ticket { origin: Origin::SelfIssued { tgt }, ..bare },
+        2 => Ticket { origin: Origin::S4U2self { tgt }, ..bare },
         _ => Ticket {
             origin: Origin::Delegated { tgt, evidence },
             hops: ticket.hops.max(1),
@@ -136,7 +155,7 @@ pub fn nearest_record(ticket: &Ticket) -> Vec<u8> {
     let mut near = *ticket;
     match near.origin {
         Origin::Initial => (near.service, near.hops) = (0, 0),
-        Origin::Delegated { .. } => near.hops = near.hops.clamp(1, 8),
+        Origin::Delegated { .. } => near.hops = near.hops.clamp(1, TRAIL_LIMIT as u8),
         _ => near.hops = 0,
     }
     near.trail[usize::from(near.hops)..].fill(0);

@@ -1,13 +1,13 @@
 //! Replays a history on the compiled library and on the second implementation, and compares them.
 
-use super::draft::{record, Shown};
+use super::draft::{record, TicketText};
 use super::{edit_of, generate, shrink, Call, Hex, History, Tally};
 use crate::accounts::Edit;
 use crate::book::{self, Book};
 use crate::calls::{self, Answer};
 use crate::library;
 use crate::random::Random;
-use crate::record::Ticket;
+use crate::record::{Principal, Ticket};
 use crate::service::Service;
 use crate::words;
 use std::fmt::Debug;
@@ -100,7 +100,8 @@ impl Pair {
 
     /// Makes an edit on both sides.
     fn edit(&mut self, edit: &Edit, tally: &mut Tally) -> Result<Outcome, String> {
-        let known = u8::try_from(edit.number).is_ok_and(|n| self.second.table.account(n).is_some());
+        let account = |number| self.second.table.account(number);
+        let known = Principal::try_from(edit.number).is_ok_and(|number| account(number).is_some());
         let error = self.library.edit(edit);
         same("the answer", error, calls::edit(&mut self.second, edit))?;
         if error == 0 {
@@ -155,9 +156,9 @@ impl Pair {
 
     /// Compares the descents of all numbers held, and of some others.
     fn compare_descents(&mut self, tally: &mut Tally) -> Result<(), String> {
-        let held = self.second.ledger.len() as u32;
+        let count = self.second.ledger.len() as u32;
         let some = self.random.word() as u16;
-        let others = [held, held + 1, some.into(), 65_535, 65_536, 65_536 + held / 2, u32::MAX];
+        let others = [count, count + 1, some.into(), 65_535, 65_536, 65_536 + count / 2, u32::MAX];
         let numbers = self.second.ledger.iter().map(|ticket| u32::from(ticket.number));
         for number in numbers.chain(others) {
             let answer = self.library.descent(number);
@@ -168,8 +169,8 @@ impl Pair {
         Ok(())
     }
 
-    /// Where the service was fresh: the ledger is the granted records in order, and the descent of
-    /// every ticket is lawful.
+    /// R10.3, where the service was fresh: the ledger is the granted records in order, and the descent
+    /// of every ticket is lawful.
     pub fn finish(&self) -> Result<(), String> {
         let Some(book) = &self.book else {
             return Ok(());
@@ -178,7 +179,7 @@ impl Pair {
         same("the count of granted tickets", tickets.len(), self.records.len())?;
         for (ticket, granted) in tickets.iter().zip(&self.records) {
             if record(ticket).as_ref() != Some(granted) {
-                return Err(format!("granted {}, held {}", Hex(granted), Shown(ticket)));
+                return Err(format!("granted {}, held {}", Hex(granted), TicketText(ticket)));
             }
         }
         book::lawful(&book.notes)?;
@@ -214,7 +215,8 @@ pub fn replay(history: &History, rhythm: usize, tally: &mut Tally) -> Result<(),
 
 /// Replays the histories of the seeds from this one on, so many calls at least; in the first of them,
 /// `in_full` calls at least, the states are compared in full after each call. On a difference the
-/// answer is the seed and the shortest history found that still shows one.
+/// answer is the seed and the shortest history found that still shows one. A call that is counted as
+/// something that the tally does not expect is an error too.
 pub fn run(seed: u64, calls: u64, in_full: u64) -> Result<Tally, String> {
     let mut tally = Tally::default();
     for seed in seed.. {
@@ -227,5 +229,10 @@ pub fn run(seed: u64, calls: u64, in_full: u64) -> Result<Tally, String> {
             return Err(shrink::report(history, failure));
         }
     }
-    Ok(tally)
+    let unexpected = tally.unexpected();
+    if unexpected.is_empty() {
+        Ok(tally)
+    } else {
+        Err(format!("counted outside the tally's list: {unexpected:?}"))
+    }
 }

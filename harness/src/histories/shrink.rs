@@ -130,7 +130,7 @@ fn renumber_record(record: &mut Vec<u8>, dropped: &[u16]) {
     let origin = match ticket.origin {
         Origin::Initial => Origin::Initial,
         Origin::Direct { tgt } => Origin::Direct { tgt: new(tgt) },
-        Origin::SelfIssued { tgt } => Origin::SelfIssued { tgt: new(tgt) },
+        Origin::S4U2self { tgt } => Origin::S4U2self { tgt: new(tgt) },
         Origin::Delegated { tgt, evidence } => {
             Origin::Delegated { tgt: new(tgt), evidence: new(evidence) }
         }

@@ -1,43 +1,52 @@
-//! How often each answer was reached, by the check that gave it, and each kind of grant.
+//! How often each answer was reached, by the check that gave it (R6.2, R2.9), and each kind of grant.
 
 use super::draft::presented;
 use super::History;
-use crate::accounts::Edit;
-use crate::decisions::{classic_route, resource_route, CNAME_IN_ADDL_TKT, FORWARDABLE};
-use crate::record::{read_request, Kind, Origin, Request, Ticket};
+use crate::accounts::{Edit, ALL_FLAGS};
+use crate::decisions::{classic_route, has_cname_in_addl_tkt, is_forwardable, resource_route};
+use crate::limits::{ACCOUNT_LIMIT, LAST_SECOND, TICKET_LIMIT, TRAIL_LIMIT};
+use crate::record::{read_request, Kind, Origin, Principal, Request, Ticket};
 use crate::service::Service;
 use std::collections::BTreeMap;
 use std::fmt;
 
-/// What has to be reached, in groups.
+/// What has to be reached, in groups; nothing else may be.
 const EXPECTED: &[(&str, &[&str])] = &[
     ("edits", &["new", "again", "60 number", "60 name", "60 flags", "12", "8"]),
     ("unreadable 60", &["short", "kind", "map", "missing", "left over", "ticket"]),
     ("output", &["52"]),
-    ("TGT", &["41 not held", "41 unequal", "35", "33", "32", "18"]),
+    ("TGT", &["41 not held", "41 unequal", "35 not initial", "33", "32", "18"]),
     ("evidence", &["41 not held", "41 unequal", "33", "32", "26 no service", "26 another", "18"]),
     ("service", &["7 unknown", "7 disabled", "7 flag 8", "7 Service 1"]),
     ("user", &["6", "18"]),
     ("last", &["13 option", "13 route", "61", "11", "29"]),
     ("initial", &["FORWARDABLE", "mark", "neither"]),
     ("direct", &["FORWARDABLE", "mark", "neither"]),
-    ("self", &["FORWARDABLE", "mark", "neither"]),
-    ("self by", &["trusted", "untrusted, send set", "untrusted, no send set"]),
+    ("S4U2self", &["FORWARDABLE", "mark", "neither"]),
+    ("S4U2self by", &["trusted", "untrusted, send set", "untrusted, no send set"]),
     ("delegated", &["FORWARDABLE", "neither", "both, from other words"]),
     ("route", &["classic", "resource", "both"]),
     ("eighth hop", &["classic", "resource", "both"]),
     ("trail", &["1", "2", "3", "4", "5", "6", "7", "8"]),
-    ("end by", &["lifetime", "4294967295", "TGT", "evidence", "till"]),
+    ("end by", &["lifetime", "last second", "TGT", "evidence", "till"]),
     ("granted at", &["start", "end - 1", "0"]),
-    ("refused at", &["start - 1", "end", "0", "4294967295"]),
-    ("above 63", &["TGT 18", "evidence 26", "evidence 18"]),
+    ("refused at", &["start - 1", "end", "0", "last second"]),
+    ("no account", &["TGT 18", "evidence 26", "evidence 18"]),
     ("letter case", &["as set", "other"]),
-    ("start", &["fresh", "other words", "count above 512", "number twice", "name twice"]),
+    ("start", &["fresh", "other words", "count above limit", "number twice", "name twice"]),
     ("descent", &["0", "1", "2", "3", "4", "5", "6", "7", "8", "9", "more", "41"]),
 ];
 
 /// How often each of them has to be reached.
 const LEAST: u64 = 100;
+
+/// What no call may be counted as: it is in no group.
+const NEVER: &str = "unexpected";
+
+/// All that has to be reached, each with its group.
+fn expected() -> impl Iterator<Item = (&'static str, &'static str)> {
+    EXPECTED.iter().flat_map(|(group, names)| names.iter().map(move |name| (*group, *name)))
+}
 
 /// The counts.
 #[derive(Default)]
@@ -66,10 +75,14 @@ impl Tally {
 
     /// What was reached too seldom.
     pub fn missing(&self) -> Vec<String> {
-        let all =
-            EXPECTED.iter().flat_map(|(group, names)| names.iter().map(move |n| (*group, *n)));
-        let seldom = all.filter(|key| self.counts.get(key).copied().unwrap_or(0) < LEAST);
+        let seldom = expected().filter(|key| self.counts.get(key).copied().unwrap_or(0) < LEAST);
         seldom.map(|(group, name)| format!("{group}: {name}")).collect()
+    }
+
+    /// What was reached and counted outside the list.
+    pub fn unexpected(&self) -> Vec<String> {
+        let outside = self.counts.iter().filter(|(key, _)| !expected().any(|other| other == **key));
+        outside.map(|((group, name), count)| format!("{group}: {name}: {count}")).collect()
     }
 
     /// A history begins.
@@ -78,20 +91,18 @@ impl Tally {
             return self.add("start", "fresh");
         };
         self.add("start", "other words");
-        if words.ledger[0] > 512 {
-            self.add("start", "count above 512");
+        if words.ledger[0] > TICKET_LIMIT as u64 {
+            self.add("start", "count above limit");
         }
-        let first = |ticket: &Ticket| service.ticket(ticket.number);
-        if service
-            .ledger
-            .iter()
-            .any(|ticket| !first(ticket).is_some_and(|t| std::ptr::eq(t, ticket)))
-        {
+        let is_first = |ticket: &Ticket| {
+            service.first_held(ticket.number).is_some_and(|first| std::ptr::eq(first, ticket))
+        };
+        if !service.ledger.iter().all(is_first) {
             self.add("start", "number twice");
         }
         let rows = (0..).zip(&service.table.rows);
         let mut names = rows.filter_map(|(number, row)| Some((number, row.as_ref()?.name())));
-        if names.any(|(number, name)| service.table.find(name) != Some(number)) {
+        if names.any(|(number, name)| service.table.find_name(name) != Some(number)) {
             self.add("start", "name twice");
         }
     }
@@ -112,9 +123,10 @@ impl Tally {
             0 => "new",
             12 => "12",
             8 => "8",
-            _ if edit.number > 63 => "60 number",
-            _ if edit.flags > 15 => "60 flags",
-            _ => "60 name",
+            60 if edit.number as usize >= ACCOUNT_LIMIT => "60 number",
+            60 if edit.flags > ALL_FLAGS.into() => "60 flags",
+            60 => "60 name",
+            _ => NEVER,
         };
         self.add("edits", name);
     }
@@ -124,15 +136,17 @@ impl Tally {
     pub(super) fn requested(&mut self, service: &Service, bytes: &[u8], clock: u32, error: u32) {
         self.calls += 1;
         match read_request(bytes) {
-            Err(_) => self.add("unreadable 60", unreadable(bytes)),
+            Err(_) => {
+                self.add("unreadable 60", if error == 60 { unreadable(bytes) } else { NEVER })
+            }
             Ok(request) if error == 0 => self.grants(service, &request),
             Ok(request) => {
                 let refusal = Refusal { service, request: &request, clock };
                 let (group, name) = refusal.reason(error);
                 self.add(group, name);
                 refusal.edges(error).for_each(|name| self.add("refused at", name));
-                if let Some(name) = refusal.above_63(group, error) {
-                    self.add("above 63", name);
+                if let Some(name) = refusal.no_account(group, error) {
+                    self.add("no account", name);
                 }
             }
         }
@@ -147,15 +161,15 @@ impl Tally {
         self.add("end by", end_by(request, ticket));
         self.count_clock(request, ticket.start);
         self.count_name(service, request, ticket);
-        if let Origin::SelfIssued { .. } = ticket.origin {
-            self.add("self by", self_by(service, ticket.service));
+        if let Origin::S4U2self { .. } = ticket.origin {
+            self.add("S4U2self by", s4u2self_by(service, ticket.service));
         }
-        if let Kind::S4u2proxy { tgt, evidence, .. } = &request.kind {
-            let trails = ["", "1", "2", "3", "4", "5", "6", "7", "8"];
-            self.add("trail", trails[usize::from(ticket.hops)]);
+        if let Kind::S4U2proxy { tgt, evidence, .. } = &request.kind {
+            let trails = [NEVER, "1", "2", "3", "4", "5", "6", "7", "8"];
+            self.add("trail", trails.get(usize::from(ticket.hops)).unwrap_or(&NEVER));
             let route = route(service, request, tgt.client, ticket.service, evidence);
             self.add("route", route);
-            if ticket.hops == 8 {
+            if usize::from(ticket.hops) == TRAIL_LIMIT {
                 self.add("eighth hop", route);
             }
         }
@@ -180,8 +194,8 @@ impl Tally {
     /// Whether the name of a granted request was written as the account's.
     fn count_name(&mut self, service: &Service, request: &Request, ticket: &Ticket) {
         let (number, name) = match request.kind {
-            Kind::Initial { user } | Kind::S4u2self { user, .. } => (ticket.client, user),
-            Kind::Direct { service, .. } | Kind::S4u2proxy { service, .. } => {
+            Kind::Initial { user } | Kind::S4U2self { user, .. } => (ticket.client, user),
+            Kind::Direct { service, .. } | Kind::S4U2proxy { service, .. } => {
                 (ticket.service, service)
             }
         };
@@ -202,7 +216,7 @@ impl fmt::Display for Tally {
     }
 }
 
-/// Why a request is unreadable.
+/// R4.3: why a request is unreadable.
 fn unreadable(request: &[u8]) -> &'static str {
     let Some(&[high, low, kind]) = request.first_chunk() else {
         return "short";
@@ -238,10 +252,10 @@ fn issued(ticket: &Ticket) -> (&'static str, &'static str) {
     let group = match ticket.origin {
         Origin::Initial => "initial",
         Origin::Direct { .. } => "direct",
-        Origin::SelfIssued { .. } => "self",
+        Origin::S4U2self { .. } => "S4U2self",
         Origin::Delegated { .. } => "delegated",
     };
-    let name = match (ticket.flags & FORWARDABLE != 0, ticket.barred) {
+    let name = match (is_forwardable(ticket), ticket.barred) {
         (true, true) => "both, from other words",
         (true, false) => "FORWARDABLE",
         (false, true) => "mark",
@@ -250,7 +264,7 @@ fn issued(ticket: &Ticket) -> (&'static str, &'static str) {
     (group, name)
 }
 
-/// What gave a ticket its end; the first of the bounds that it equals.
+/// R5.9: what gave a ticket its end; the first of the bounds that it equals.
 fn end_by(request: &Request, ticket: &Ticket) -> &'static str {
     let (tgt, evidence) = presented(request);
     let ends_with = |other: Option<&Ticket>| other.is_some_and(|other| other.end == ticket.end);
@@ -260,15 +274,15 @@ fn end_by(request: &Request, ticket: &Ticket) -> &'static str {
         "evidence"
     } else if request.till == ticket.end {
         "till"
-    } else if ticket.end == u32::MAX {
-        "4294967295"
+    } else if ticket.end == LAST_SECOND {
+        "last second"
     } else {
         "lifetime"
     }
 }
 
-/// By what a self ticket's FORWARDABLE goes.
-fn self_by(service: &Service, service_1: u8) -> &'static str {
+/// R5.6: by what an S4U2self ticket's FORWARDABLE goes.
+fn s4u2self_by(service: &Service, service_1: Principal) -> &'static str {
     if service.table.is_trusted(service_1) {
         "trusted"
     } else if service.table.sends_to_none(service_1) {
@@ -278,12 +292,12 @@ fn self_by(service: &Service, service_1: u8) -> &'static str {
     }
 }
 
-/// Which routes held for a hop.
+/// R5.7: which routes held for a hop.
 fn route(
     service: &Service,
     request: &Request,
-    service_1: u8,
-    service_2: u8,
+    service_1: Principal,
+    service_2: Principal,
     evidence: &Ticket,
 ) -> &'static str {
     let table = &service.table;
@@ -292,7 +306,8 @@ fn route(
     match (classic, resource) {
         (true, true) => "both",
         (true, false) => "classic",
-        _ => "resource",
+        (false, true) => "resource",
+        (false, false) => NEVER,
     }
 }
 
@@ -313,15 +328,15 @@ impl Refusal<'_> {
             18 => self.disabled(),
             26 => self.other_service(),
             7 => ("service", self.no_service()),
-            13 if self.request.options & CNAME_IN_ADDL_TKT == 0 => ("last", "13 option"),
+            13 if !has_cname_in_addl_tkt(self.request) => ("last", "13 option"),
             52 => ("output", "52"),
-            35 => ("TGT", "35"),
+            35 => ("TGT", "35 not initial"),
             6 => ("user", "6"),
             13 => ("last", "13 route"),
             61 => ("last", "61"),
             11 => ("last", "11"),
             29 => ("last", "29"),
-            _ => ("last", "another number"),
+            _ => ("last", NEVER),
         }
     }
 
@@ -337,32 +352,35 @@ impl Refusal<'_> {
     fn edges(&self, error: u32) -> impl Iterator<Item = &'static str> {
         let (tgt, evidence) = presented(self.request);
         let mut tickets = tgt.into_iter().chain(evidence);
-        let early = error == 33 && tickets.clone().any(|t| t.start.wrapping_sub(1) == self.clock);
-        let late = error == 32 && tickets.any(|t| t.end == self.clock);
+        let is_before = |ticket: &Ticket| ticket.start.wrapping_sub(1) == self.clock;
+        let early = error == 33 && tickets.clone().any(is_before);
+        let late = error == 32 && tickets.any(|ticket| ticket.end == self.clock);
         let zero = self.clock == 0;
-        let last = self.clock == u32::MAX;
-        let edges = [(early, "start - 1"), (late, "end"), (zero, "0"), (last, "4294967295")];
+        let last = self.clock == LAST_SECOND;
+        let edges = [(early, "start - 1"), (late, "end"), (zero, "0"), (last, "last second")];
         edges.into_iter().filter_map(|(stood, name)| stood.then_some(name))
     }
 
-    /// The account above 63 that a refusal of this group was for.
-    fn above_63(&self, group: &str, error: u32) -> Option<&'static str> {
+    /// R2.4: the ticket for which a refusal of this group was given, where it names a number beyond
+    /// those of accounts.
+    fn no_account(&self, group: &str, error: u32) -> Option<&'static str> {
         let (tgt, evidence) = presented(self.request);
+        let beyond = |principal: Principal| usize::from(principal) >= ACCOUNT_LIMIT;
         match (group, error) {
-            ("TGT", 18) if tgt?.client > 63 => Some("TGT 18"),
-            ("evidence", 26) if evidence?.service > 63 => Some("evidence 26"),
-            ("evidence", 18) if evidence?.client > 63 => Some("evidence 18"),
+            ("TGT", 18) if beyond(tgt?.client) => Some("TGT 18"),
+            ("evidence", 26) if beyond(evidence?.service) => Some("evidence 26"),
+            ("evidence", 18) if beyond(evidence?.client) => Some("evidence 18"),
             _ => None,
         }
     }
 
     /// The ticket that is not held, or not as it is held.
     fn not_as_held(&self) -> (&'static str, &'static str) {
-        let held = |ticket: &Ticket| self.service.ticket(ticket.number);
-        let which = self.by(|ticket| held(ticket) != Some(ticket));
+        let first = |ticket: &Ticket| self.service.first_held(ticket.number);
+        let which = self.by(|ticket| first(ticket) != Some(ticket));
         let (tgt, evidence) = presented(self.request);
         let ticket = if which == "TGT" { tgt } else { evidence };
-        let is_held = ticket.is_some_and(|ticket| held(ticket).is_some());
+        let is_held = ticket.is_some_and(|ticket| first(ticket).is_some());
         (which, if is_held { "41 unequal" } else { "41 not held" })
     }
 
@@ -371,7 +389,7 @@ impl Refusal<'_> {
         let is_disabled = |ticket: &Ticket| self.service.table.is_disabled(ticket.client);
         match (self.by(is_disabled), &self.request.kind) {
             ("TGT", _) => ("TGT", "18"),
-            (_, Kind::S4u2proxy { .. }) => ("evidence", "18"),
+            (_, Kind::S4U2proxy { .. }) => ("evidence", "18"),
             _ => ("user", "18"),
         }
     }
@@ -385,11 +403,11 @@ impl Refusal<'_> {
 
     /// Why the named service, or Service 1 in kind 3, is none.
     fn no_service(&self) -> &'static str {
-        let (Kind::Direct { service, .. } | Kind::S4u2proxy { service, .. }) = self.request.kind
+        let (Kind::Direct { service, .. } | Kind::S4U2proxy { service, .. }) = self.request.kind
         else {
             return "7 Service 1";
         };
-        match self.service.table.find(service) {
+        match self.service.table.find_name(service) {
             None => "7 unknown",
             Some(number) if self.service.table.is_disabled(number) => "7 disabled",
             Some(_) => "7 flag 8",

@@ -4,9 +4,8 @@ use crate::scenes::{self, other_client, other_number, Scene, END, NOW, UNKNOWN};
 use crate::sides::{make, Call, Output, Side};
 use crate::stage::{Names, Pair, Size, START};
 use harness::accounts::{Edit, DISABLED};
-use harness::record::LONGEST_RECORD;
+use harness::limits::{ACCOUNT_LIMIT, LONGEST_RECORD, TICKET_LIMIT};
 use harness::samples::{counted, w1, w3_with, TICKET_0, TICKET_1, TICKET_2};
-use harness::service::PLACES;
 use harness::words;
 
 /// A call in a state.
@@ -24,12 +23,32 @@ pub struct Case {
 /// Cases with a heading.
 pub struct Group {
     /// The heading.
-    pub heading: &'static str,
+    pub heading: String,
+    /// The names of those among its cases that the summary shows.
+    pub telling: &'static [&'static str],
     /// The cases.
     pub cases: Vec<Case>,
 }
 
-/// A delegated record with a trail of eight, and the barred mark.
+/// The case that makes no call.
+pub const LOOP: &str = "no call, the loop alone";
+
+/// What the summary shows of a full service.
+const OF_FULL: &[&str] = &[
+    "kind 1, initial",
+    "kind 2, direct",
+    "kind 3, S4U2self",
+    "kind 4, S4U2proxy, classic route",
+    "60: one byte",
+    "41: kind 4, TGT unequal",
+    "7: kind 3, Service 1 is no service",
+    "13: kind 4, no route",
+    "edit, the row as it was",
+    "descent, nine steps",
+    "day total",
+];
+
+/// A delegated record with a full trail, and the barred mark.
 const LONGEST: &[u8; LONGEST_RECORD] = b"\x03\xff\x01\x02\x40\x00\x00\x00\x03\x04\x00\x00\x03\xe8\x00\x00\x90\x88\x05\x06\x07\x08\x08\x01\x02\x03\x04\x05\x06\x07\x08";
 
 /// A name with a byte at its end that no name has.
@@ -38,7 +57,7 @@ const BAD_NAME: &[u8] = b"orders-d@";
 /// All cases.
 pub fn groups() -> Vec<Group> {
     let empty = Size { names: Names::Clinic, full: false, tickets: 0 };
-    let full = Size { full: true, tickets: PLACES - 1, ..empty };
+    let full = Size { full: true, tickets: TICKET_LIMIT - 1, ..empty };
     let ends = Size { names: Names::Ends, ..full };
     let fronts = Size { names: Names::Fronts, ..full };
     let service = |size| {
@@ -47,13 +66,23 @@ pub fn groups() -> Vec<Group> {
             .flatten()
             .collect()
     };
+    let proxy = &["kind 4, S4U2proxy, classic route"];
+    let held = format!("{ACCOUNT_LIMIT} accounts, {} tickets", full.tickets);
     vec![
-        Group { heading: "Records and requests alone", cases: record_layer(empty) },
-        Group { heading: "As few accounts and tickets as the call needs", cases: service(empty) },
-        Group { heading: "64 accounts, 511 tickets", cases: service(full) },
-        Group { heading: "The same, names that differ at the end", cases: alike(ends) },
-        Group { heading: "The same, names that differ at the front", cases: alike(fronts) },
+        group("Records and requests alone", &["request W3, 52 bytes"], record_layer(empty)),
+        group("As few accounts and tickets as the call needs", proxy, service(empty)),
+        group(&held, OF_FULL, service(full)),
+        group("The same, names that differ at the end", proxy, alike(ends)),
+        group("The same, names that differ at the front", &[], alike(fronts)),
     ]
+}
+
+/// Cases with a heading, and those of them that the summary shows.
+fn group(heading: &str, telling: &'static [&'static str], cases: Vec<Case>) -> Group {
+    for name in telling {
+        assert!(cases.iter().any(|case| case.name == *name), "{heading}: there is no {name}");
+    }
+    Group { heading: heading.to_string(), telling, cases }
 }
 
 /// A case that is not refused.
@@ -73,11 +102,11 @@ fn record_layer(size: Size) -> Vec<Case> {
     let request = |bytes: &[u8]| with(Call::ReadRequest(bytes.to_vec()));
     let w3 = w3_with(&counted(TICKET_1));
     vec![
-        done("no call, the loop alone", with(Call::Nothing)),
+        done(LOOP, with(Call::Nothing)),
         done("record of ticket 0, initial, 17 bytes", rewrite(TICKET_0)),
-        done("record of ticket 1, self, 20 bytes", rewrite(TICKET_1)),
+        done("record of ticket 1, S4U2self, 20 bytes", rewrite(TICKET_1)),
         done("record of ticket 2, delegated, 24 bytes", rewrite(TICKET_2)),
-        done("longest delegated record, 31 bytes", rewrite(LONGEST)),
+        done(&format!("longest delegated record, {LONGEST_RECORD} bytes"), rewrite(LONGEST)),
         refused(60, "record of ticket 2 and a byte left over", rewrite(&[TICKET_2, &[0]].concat())),
         done("request W1, 7 bytes", request(&w1())),
         done("request W3, 52 bytes", request(&w3)),
@@ -90,7 +119,7 @@ fn grants(size: Size) -> Vec<Case> {
     vec![
         done("kind 1, initial", scenes::initial(size).call()),
         done("kind 2, direct", scenes::direct(size).call()),
-        done("kind 3, S4U2self", scenes::self_issued(size).call()),
+        done("kind 3, S4U2self", scenes::s4u2self(size).call()),
         done("kind 4, S4U2proxy, classic route", scenes::classic(size).call()),
         done("kind 4, S4U2proxy, resource route", scenes::resource(size).call()),
     ]
@@ -102,10 +131,12 @@ fn of_tgt(size: Size) -> Vec<Case> {
     let classic = || scenes::classic(size);
     let mut damaged = classic().asked.bytes();
     damaged.pop();
+    let short = LONGEST_RECORD - 1;
+    let output = format!("kind 4, output of {short} bytes");
     vec![
         refused(60, "one byte", scenes::bare(size).with_bytes(vec![0])),
         refused(60, "kind 4, the last byte missing", scenes::bare(size).with_bytes(damaged)),
-        refused(52, "kind 4, output of 30 bytes", classic().room(LONGEST_RECORD - 1).call()),
+        refused(52, &output, classic().room(short).call()),
         refused(41, "kind 2, TGT not held", direct().tgt(other_number).call()),
         refused(41, "kind 2, TGT unequal", direct().tgt(other_client).call()),
         refused(41, "kind 4, TGT unequal", classic().tgt(other_client).call()),
@@ -133,28 +164,28 @@ fn of_evidence(size: Size) -> Vec<Case> {
 fn of_names(size: Size) -> Vec<Case> {
     let initial = || scenes::initial(size);
     let direct = || scenes::direct(size);
-    let self_issued = || scenes::self_issued(size);
+    let s4u2self = || scenes::s4u2self(size);
     vec![
         refused(7, "kind 2, service unknown", direct().service(UNKNOWN).call()),
         refused(7, "kind 2, no service", direct().flags(1, 0).call()),
-        refused(7, "kind 3, Service 1 is no service", self_issued().flags(0, 0).call()),
+        refused(7, "kind 3, Service 1 is no service", s4u2self().flags(0, 0).call()),
         refused(6, "kind 1, user unknown", initial().user(UNKNOWN).call()),
-        refused(6, "kind 3, user unknown", self_issued().user(UNKNOWN).call()),
+        refused(6, "kind 3, user unknown", s4u2self().user(UNKNOWN).call()),
         refused(18, "kind 1, user disabled", initial().flags(0, DISABLED).call()),
-        refused(18, "kind 3, user disabled", self_issued().flags(1, DISABLED).call()),
+        refused(18, "kind 3, user disabled", s4u2self().flags(1, DISABLED).call()),
     ]
 }
 
 /// The last refusals: the hop's, the end's and the ledger's.
 fn of_end(size: Size) -> Vec<Case> {
-    let brim = Size { tickets: PLACES, ..size };
+    let brim = Size { tickets: TICKET_LIMIT, ..size };
     vec![
         refused(13, "kind 4, no route", scenes::no_route(size).call()),
         refused(61, "kind 4, ninth hop", scenes::nine_steps(size).call()),
         refused(11, "kind 1, till now", scenes::initial(size).till(NOW).call()),
         refused(11, "kind 4, till now", scenes::classic(size).till(NOW).call()),
-        refused(29, "kind 1, 512 tickets held", scenes::initial(brim).call()),
-        refused(29, "kind 4, 512 tickets held", scenes::classic(brim).call()),
+        refused(29, &format!("kind 1, {TICKET_LIMIT} tickets held"), scenes::initial(brim).call()),
+        refused(29, &format!("kind 4, {TICKET_LIMIT} tickets held"), scenes::classic(brim).call()),
     ]
 }
 
@@ -193,9 +224,10 @@ fn alike(size: Size) -> Vec<Case> {
 
 impl Case {
     /// Makes the call once of both sides, and looks whether all is as it has to be: one answer with
-    /// the case's error number, one output, one state, and the state put back as it was.
+    /// the case's error number, one output, one state; and every word put back as it was.
     pub fn check(&self) {
         let Pair { mut library, mut second } = self.pair.copy();
+        let kept = (library.keep(self.call.account()), second.keep(self.call.account()));
         let mut expected = library.clone();
         let [mut output, mut other] = [Output::marked(), Output::marked()];
         let said = make(&mut library, &self.call, &mut output);
@@ -213,8 +245,9 @@ impl Case {
         assert!(library == expected, "{}: the library's words", self.name);
         let mut after = Pair { library, second };
         assert!(after.agrees(), "{}: the states", self.name);
-        after.library.put_back(self.pair.library.count());
-        after.second.put_back(self.pair.second.count());
-        assert!(after.agrees() && after.second == self.pair.second, "{}: put back", self.name);
+        after.library.put_back(&kept.0);
+        after.second.put_back(&kept.1);
+        let Pair { library, second } = &self.pair;
+        assert!(after.library == *library && after.second == *second, "{}: put back", self.name);
     }
 }

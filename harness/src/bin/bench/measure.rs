@@ -18,7 +18,8 @@ const TIMED: u32 = 50_000;
 const WARMING: u32 = 5_000;
 
 /// The calls of the loops under callgrind, for each case. The difference of the last two gives the
-/// instructions of a call; what is done before them, or once, is counted with the first.
+/// instructions of a call with its part of the loop; what is done before them, or once, is counted
+/// with the first.
 const FEW: u32 = 20;
 const MANY: u32 = 120;
 const LOOPS: [u32; 3] = [FEW, FEW, MANY];
@@ -39,6 +40,11 @@ pub struct Both {
 }
 
 impl Both {
+    /// What is left of both when so much is taken off.
+    pub fn less(self, other: Both) -> Both {
+        Both { library: self.library - other.library, second: self.second - other.second }
+    }
+
     /// The library's over the second implementation's.
     pub fn ratio(self) -> f64 {
         self.library / self.second
@@ -121,12 +127,12 @@ impl Run {
     }
 }
 
-/// The instructions of a call, of each case.
+/// The instructions of a call and the loop around it, of each case.
 fn differences(parts: &[f64]) -> impl Iterator<Item = f64> + '_ {
     parts.chunks_exact(LOOPS.len()).map(|loops| (loops[2] - loops[1]) / f64::from(MANY - FEW))
 }
 
-/// The instructions of a call of both sides, of each of so many cases.
+/// The instructions of a call and the loop around it on both sides, of each of so many cases.
 pub fn instructions(cases: usize) -> Result<Vec<Both>, Box<dyn Error>> {
     let runs = [Run::start(library::Service::NAME)?, Run::start(service::Service::NAME)?];
     let [library, second] = runs.map(Run::finish);

@@ -4,7 +4,7 @@ use crate::sides::Call;
 use crate::stage::{Asked, Pair, Size, Stage, LIFETIME, START};
 use harness::accounts::{SERVICE, TRUSTED};
 use harness::decisions::RESOURCE_BASED;
-use harness::record::LONGEST_RECORD;
+use harness::limits::{LONGEST_RECORD, TRAIL_LIMIT};
 
 /// The clock reading of most requests.
 pub const NOW: u32 = START + 100;
@@ -137,7 +137,7 @@ fn client_and_service(size: Size, tickets: usize) -> (Stage, Vec<u8>) {
 }
 
 /// Kind 3. Account 0 is Service 1, account 1 the user.
-pub fn self_issued(size: Size) -> Scene {
+pub fn s4u2self(size: Size) -> Scene {
     let mut stage = Stage::new(size, 2);
     stage.set(0, SERVICE | TRUSTED, &[], &[]);
     stage.set(1, 0, &[], &[]);
@@ -147,8 +147,9 @@ pub fn self_issued(size: Size) -> Scene {
     Scene::new(stage, asked)
 }
 
-/// The accounts of a hop, the send set of Service 1 and the receive set of Service 2 given, and the
-/// ledger filled but for so many tickets. Account 0 is the user, 1 Service 1, 2 Service 2.
+/// The accounts of a hop, with these flags and this send set for Service 1 and this receive set for
+/// Service 2, and the ledger filled but for so many tickets. Account 0 is the user, 1 Service 1, 2
+/// Service 2.
 fn hop_stage(size: Size, flags: u8, send: &[usize], receive: &[usize], tickets: usize) -> Stage {
     let mut stage = Stage::new(size, 3);
     stage.set(0, 0, &[], &[]);
@@ -158,7 +159,7 @@ fn hop_stage(size: Size, flags: u8, send: &[usize], receive: &[usize], tickets: 
     stage
 }
 
-/// The hop of a self ticket that begins and ends when it is said.
+/// The hop of an S4U2self ticket that begins and ends when it is said.
 fn hop(mut stage: Stage, start: u32, till: u32) -> Scene {
     let tgt = stage.tgt(1);
     let asked = Asked { till: Some(till), ..stage.kind_3(&tgt, 0) };
@@ -205,16 +206,16 @@ pub fn evidence_of_another(size: Size) -> Scene {
     Scene::new(stage, asked)
 }
 
-/// Kind 4 with a trail of eight, nine steps from the TGT. Account 0 is the user, 1 both services.
+/// Kind 4 with a full trail, nine steps from the TGT. Account 0 is the user, 1 both services.
 pub fn nine_steps(size: Size) -> Scene {
     let mut stage = Stage::new(size, 2);
     stage.set(0, 0, &[], &[]);
     stage.set(1, SERVICE | TRUSTED, &[1], &[]);
-    stage.fill(10);
+    stage.fill(TRAIL_LIMIT + 2);
     let tgt = stage.tgt(1);
     let asked = stage.kind_3(&tgt, 0);
     let mut evidence = stage.grant(&asked, START);
-    for _ in 0..8 {
+    for _ in 0..TRAIL_LIMIT {
         let asked = stage.kind_4(&tgt, &evidence, 1);
         evidence = stage.grant(&asked, START);
     }

@@ -1,14 +1,20 @@
 //! The two implementations behind one trait, and the calls that are made of both.
 
-use harness::accounts::Edit;
+use harness::accounts::{Account, Edit};
 use harness::calls::{self, Answer, RequestFields};
-use harness::{library, service, words};
+use harness::limits::{ACCOUNT_LIMIT, LONGEST_RECORD, PLACE_SIZE, ROW_SIZE, TICKET_LIMIT};
+use harness::record::{Origin, Ticket, NO_TRAIL};
+use harness::words::{count_held, place_at, row_at};
+use harness::{library, service};
 use std::hint::black_box;
 
 /// One of the two implementations, with its state.
 pub trait Side {
     /// Its name as an argument of this program.
     const NAME: &'static str;
+
+    /// All of a state that a call may change.
+    type Kept;
 
     /// `tickets_edit`.
     fn edit(&mut self, edit: &Edit) -> u32;
@@ -28,15 +34,50 @@ pub trait Side {
     /// `tickets_read_request`.
     fn read_request(request: &[u8], fields: &mut RequestFields) -> u32;
 
-    /// How many tickets are held.
-    fn count(&self) -> usize;
+    /// What a call may change: the count of tickets, the place of the next ticket, and the row of the
+    /// account with this number.
+    fn keep(&self, number: usize) -> Self::Kept;
 
-    /// Drops the tickets behind the first so many.
-    fn put_back(&mut self, count: usize);
+    /// Puts all of it back, whether the call changed it or not.
+    fn put_back(&mut self, kept: &Self::Kept);
 }
+
+/// The words that a call of the library may change, with where they stand.
+pub struct KeptWords {
+    count: u64,
+    place: usize,
+    ticket: [u64; PLACE_SIZE],
+    row: usize,
+    account: [u64; ROW_SIZE],
+}
+
+/// The same of the second implementation. A ticket behind the last one is no part of its state, but it
+/// is written too, so that both sides put back as much.
+pub struct KeptValues {
+    count: usize,
+    ticket: Ticket,
+    row: usize,
+    account: Option<Account>,
+}
+
+/// The ticket that is put behind the last one.
+const BLANK: Ticket = Ticket {
+    number: 0,
+    flags: 0,
+    client: 0,
+    service: 0,
+    start: 0,
+    end: 0,
+    origin: Origin::Initial,
+    trail: NO_TRAIL,
+    hops: 0,
+    barred: false,
+};
 
 impl Side for library::Service {
     const NAME: &'static str = "library";
+
+    type Kept = KeptWords;
 
     fn edit(&mut self, edit: &Edit) -> u32 {
         library::Service::edit(self, edit)
@@ -62,18 +103,30 @@ impl Side for library::Service {
         library::read_request(request, fields)
     }
 
-    fn count(&self) -> usize {
-        words::held(&self.ledger)
+    fn keep(&self, number: usize) -> KeptWords {
+        // A full ledger has no place for a ticket, and its last one stands in.
+        let place = place_at(count_held(&self.ledger).min(TICKET_LIMIT - 1));
+        let row = row_at(number);
+        KeptWords {
+            count: self.ledger[0],
+            place,
+            ticket: std::array::from_fn(|word| self.ledger[place + word]),
+            row,
+            account: std::array::from_fn(|word| self.accounts[row + word]),
+        }
     }
 
-    fn put_back(&mut self, count: usize) {
-        // `black_box` costs what the test in `Vec::truncate` does, so that the loops cost the same.
-        black_box(&mut self.ledger)[0] = count as u64;
+    fn put_back(&mut self, kept: &KeptWords) {
+        self.ledger[0] = kept.count;
+        self.ledger[kept.place..][..PLACE_SIZE].copy_from_slice(&kept.ticket);
+        self.accounts[kept.row..][..ROW_SIZE].copy_from_slice(&kept.account);
     }
 }
 
 impl Side for service::Service {
     const NAME: &'static str = "second";
+
+    type Kept = KeptValues;
 
     fn edit(&mut self, edit: &Edit) -> u32 {
         calls::edit(self, edit)
@@ -99,12 +152,15 @@ impl Side for service::Service {
         calls::read_request(request, fields)
     }
 
-    fn count(&self) -> usize {
-        self.ledger.len()
+    fn keep(&self, number: usize) -> KeptValues {
+        let account = self.table.rows[number];
+        KeptValues { count: self.ledger.len(), ticket: BLANK, row: number, account }
     }
 
-    fn put_back(&mut self, count: usize) {
-        self.ledger.truncate(count);
+    fn put_back(&mut self, kept: &KeptValues) {
+        self.ledger.truncate(kept.count);
+        self.ledger.spare_capacity_mut()[0].write(kept.ticket);
+        self.table.rows[kept.row] = kept.account;
     }
 }
 
@@ -126,6 +182,16 @@ pub enum Call {
     ReadRequest(Vec<u8>),
 }
 
+impl Call {
+    /// The account that an edit may set; 0 for every other call.
+    pub fn account(&self) -> usize {
+        match self {
+            Call::Edit(edit) => (edit.number as usize).min(ACCOUNT_LIMIT - 1),
+            _ => 0,
+        }
+    }
+}
+
 /// What a call says; 0 for what it does not say.
 #[derive(Clone, Copy, Debug, PartialEq, Eq)]
 pub struct Said {
@@ -141,11 +207,14 @@ impl From<Answer> for Said {
     }
 }
 
+/// The bytes of an output for a record: some more than the longest one has.
+const ROOM: usize = LONGEST_RECORD + 9;
+
 /// What a call may write to besides the service.
 #[derive(Clone, Debug, PartialEq, Eq)]
 pub struct Output {
     /// For a record, of which a request gets a part.
-    pub record: [u8; 40],
+    pub record: [u8; ROOM],
     /// For a request's numbers.
     pub fields: RequestFields,
 }
@@ -153,7 +222,7 @@ pub struct Output {
 impl Output {
     /// An output that no call leaves so where it writes.
     pub fn marked() -> Self {
-        Output { record: [0xEE; 40], fields: [u64::MAX; 10] }
+        Output { record: [0xEE; ROOM], fields: [u64::MAX; 10] }
     }
 }
 
@@ -175,14 +244,16 @@ pub fn make<S: Side>(side: &mut S, call: &Call, output: &mut Output) -> Said {
     }
 }
 
-/// Makes a call so many times, and puts the ledger back after each. Nothing in the loop allocates:
-/// the second implementation's ledger has room for all tickets.
+/// Makes a call so many times. After each of them all that it may have changed is put back, so that
+/// every call meets the state and the outputs that the first one met. Nothing in the loop allocates:
+/// the second implementation's ledger has room for all tickets and one more.
 #[inline(never)]
 pub fn repeated_calls<S: Side>(side: &mut S, call: &Call, calls: u32) {
-    let count = side.count();
+    let kept = side.keep(call.account());
     let mut output = Output::marked();
     for _ in 0..calls {
         black_box(make(black_box(&mut *side), black_box(call), black_box(&mut output)));
-        side.put_back(count);
+        side.put_back(&kept);
+        output = Output::marked();
     }
 }

@@ -1,8 +1,9 @@
 //! The states that cases begin with, made of both implementations by the same calls.
 
 use crate::sides::{Output, Side};
-use harness::accounts::{Edit, ACCOUNTS, SERVICE};
+use harness::accounts::{Edit, SERVICE};
 use harness::decisions::{CNAME_IN_ADDL_TKT, FORWARDABLE};
+use harness::limits::{ACCOUNT_LIMIT, TICKET_LIMIT};
 use harness::samples::counted;
 use harness::{library, service, words};
 
@@ -17,7 +18,7 @@ pub const START: u32 = 2000;
 
 /// Names as a clinic may have them; several lengths, each of them several times.
 #[rustfmt::skip]
-static CLINIC: [&str; ACCOUNTS] = [
+static CLINIC: [&str; ACCOUNT_LIMIT] = [
     "tech", "web", "store", "lab", "pharmacy", "reception", "radiology", "night-desk",
     "ward-1", "ward-2", "ward-3", "ward-4", "ward-5", "ward-6", "ward-7", "ward-8",
     "nurse-anna", "nurse-bela", "nurse-cora", "nurse-dora", "dr.adler", "dr.berger", "dr.conrad", "dr.ebner",
@@ -29,16 +30,16 @@ static CLINIC: [&str; ACCOUNTS] = [
 ];
 
 /// Names of one length that differ in their last two bytes alone.
-static ENDS: [[u8; 16]; ACCOUNTS] = numbered(*b"recorder-ward-00", 14);
+static ENDS: [[u8; 16]; ACCOUNT_LIMIT] = numbered(*b"recorder-ward-00", 14);
 
 /// Names of one length that differ in their first two bytes alone.
-static FRONTS: [[u8; 16]; ACCOUNTS] = numbered(*b"00-recorder-ward", 0);
+static FRONTS: [[u8; 16]; ACCOUNT_LIMIT] = numbered(*b"00-recorder-ward", 0);
 
 /// A name for each number, which has its two digits at a place of the name.
-const fn numbered(name: [u8; 16], at: usize) -> [[u8; 16]; ACCOUNTS] {
-    let mut names = [name; ACCOUNTS];
+const fn numbered(name: [u8; 16], at: usize) -> [[u8; 16]; ACCOUNT_LIMIT] {
+    let mut names = [name; ACCOUNT_LIMIT];
     let mut number = 0;
-    while number < ACCOUNTS {
+    while number < ACCOUNT_LIMIT {
         names[number][at] += (number / 10) as u8;
         names[number][at + 1] += (number % 10) as u8;
         number += 1;
@@ -88,14 +89,17 @@ pub struct Pair {
 }
 
 impl Pair {
-    /// A fresh service on both sides.
+    /// A fresh service on both sides. The second implementation's has room for all tickets, and for the
+    /// one that is put behind them (`Side::put_back`).
     fn fresh() -> Pair {
-        Pair { library: library::Service::fresh(), second: service::Service::fresh() }
+        let mut second = service::Service::fresh();
+        second.ledger.reserve(TICKET_LIMIT + 1);
+        Pair { library: library::Service::fresh(), second }
     }
 
-    /// Another pair in this state, with room for all tickets.
+    /// Another pair in this state.
     pub fn copy(&self) -> Pair {
-        let mut copy = Pair { library: self.library.clone(), second: service::Service::fresh() };
+        let mut copy = Pair { library: self.library.clone(), ..Pair::fresh() };
         copy.second.table = self.second.table.clone();
         copy.second.ledger.extend_from_slice(&self.second.ledger);
         copy
@@ -168,7 +172,7 @@ pub struct Stage {
 impl Stage {
     /// A state for a case with so many accounts of its own, which are to be set yet.
     pub fn new(size: Size, own: usize) -> Stage {
-        let first = if size.full { ACCOUNTS - own } else { 0 };
+        let first = if size.full { ACCOUNT_LIMIT - own } else { 0 };
         let mut stage = Stage { pair: Pair::fresh(), size, first: 0 };
         for number in 0..first {
             stage.set(number, SERVICE, &[], &[]);
