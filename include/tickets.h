@@ -2,7 +2,9 @@
  *
  * Every function takes any bytes and any words: it never reads or writes outside what it is given, and it always ends. A pointer must be
  * valid for its whole length and must not be NULL, not even where the length is 0. What a call writes must not overlap what it reads. The
- * functions keep no state of their own, so calls on separate memory may run at the same time. */
+ * functions keep no state of their own, so calls on separate memory may run at the same time.
+ *
+ * Numbers such as R6.2 are those of the rules in docs/RULES.md. */
 #ifndef TICKETS_H
 #define TICKETS_H
 
@@ -13,7 +15,7 @@
 extern "C" {
 #endif
 
-/* The error numbers, under their names in RFC 4120, section 7.5.9. 0 is no error. */
+/* The error numbers (R6.8), under their names in RFC 4120, section 7.5.9. 0 is no error. */
 enum {
     TICKETS_KDC_ERR_C_PRINCIPAL_UNKNOWN = 6,
     TICKETS_KDC_ERR_S_PRINCIPAL_UNKNOWN = 7,
@@ -33,20 +35,21 @@ enum {
     TICKETS_KRB_ERR_FIELD_TOOLONG = 61
 };
 
-/* The fewest bytes that an output has to have: those of the longest ticket record. */
+/* The fewest bytes that an output has to have: those of the longest ticket record (R3.3). */
 enum { TICKETS_LONGEST_RECORD = 31 };
 
-/* What a call answers. Where `error` is 0 the call was granted and `value` is its result; else `value` is 0. */
+/* What a call answers. Where `error` is 0 the call was granted and `value` is its result. Beside an error nothing was granted, and `value` is
+ * 0 and stands for nothing: it is not ticket 0, and not a length. So look at `error` first. */
 typedef struct {
     uint32_t error;
     uint32_t value;
 } tickets_answer;
 
-/* ---- The service (document 01, "Accounts", "Decisions", "The plain book" and "Error numbers").
+/* ---- The service (R2, R4 to R7).
  *
  * The caller lends the service's memory, two arrays of words, to each call. A service begins with tickets_fresh; after that only the
  * functions below write to it, one at a time. Its words may be copied, stored and brought back as they are; they have no pointers. Any
- * other words are safe too: they stand for some accounts and some tickets. */
+ * other words are safe too: they stand for some accounts and some tickets (R1.3, foreign state). */
 
 /* How many words the accounts have, and how many the ledger has. */
 #define TICKETS_ACCOUNTS 384
@@ -58,7 +61,7 @@ typedef struct {
     uint64_t ledger[TICKETS_LEDGER];
 } tickets_service;
 
-/* The flags of an account. */
+/* The flags of an account (R2.2). */
 enum {
     TICKETS_FLAG_DISABLED = 1,
     TICKETS_FLAG_BARRED = 2,   /* DelegationNotAllowed */
@@ -66,31 +69,32 @@ enum {
     TICKETS_FLAG_SERVICE = 8
 };
 
-/* Makes a fresh service, without accounts or tickets. All words are set, whatever they held. */
+/* Makes a fresh service: no account is set, and no ticket is held (R7.2). All words are written, whatever they held. */
 void tickets_fresh(uint64_t *accounts, uint64_t *ledger);
 
-/* Sets account `number`, 0 to 63, whole. The name is the `name_len` bytes at `name`, with no zero byte at its end: 1 to 24 bytes, each 0x21
- * to 0x7E without 0x40. `flags` are those above, together. `send` and `receive` are sets of accounts, bit n for account n: the services
- * that the account may send forwarded tickets to, and those that it receives them from; they may name accounts not set yet. `lifetime` is
- * in seconds. The ledger is not touched.
+/* Sets account `number`, 0 to 63, whole (R2.8). The name is the `name_len` bytes at `name`, with no zero byte at its end: 1 to 24 bytes, each
+ * 0x21 to 0x7E without 0x40 (R2.5). `flags` are those above, together. `send` and `receive` are sets of accounts, bit n for account n: where
+ * the account may hop to, and from whom it takes hops (R2.3); bits of accounts that are not set are good too. `lifetime` is in seconds. The
+ * ledger is not touched.
  *
  *   0    the account is set. The first edit of a number fixes its name.
  *   60   (TICKETS_KRB_ERR_GENERIC) the number is above 63, the name is not such a name, or the flags are above 15.
  *   12   (TICKETS_KDC_ERR_POLICY) the account is set and has another name, if only in the case of a letter.
  *   8    (TICKETS_KDC_ERR_PRINCIPAL_NOT_UNIQUE) another account's name matches, with ASCII letter case ignored.
  *
- * The first of these checks that fails answers, and the accounts are then as before. */
+ * The first of these checks that fails answers, and the accounts are then as before (R2.9). */
 uint32_t tickets_edit(uint64_t *accounts, uint32_t number, const uint8_t *name, size_t name_len, uint32_t flags, uint64_t send,
                       uint64_t receive, uint32_t lifetime);
 
-/* Answers the request of `request_len` bytes at `request`, at the clock reading `clock`, in seconds. The accounts are read only. For an
- * initial ticket (kind 1) the caller has checked the user's password before.
+/* Answers the request of `request_len` bytes at `request` (R4), at the clock reading `clock`, in seconds. The accounts are read only. For an
+ * initial ticket (kind 1) the caller has checked the user's password before (R1.1).
  *
- * error 0: granted. `value` is the length of the new ticket's record, 17 to 31; the record stands at the start of `output`, the output's
- * further bytes are as before, and the ticket is the ledger's last. `output_len` has to be TICKETS_LONGEST_RECORD at least, whatever
- * the ticket.
+ * error 0: granted (R7.3). `value` is the length of the new ticket's record, 17 to 31; the record stands at the start of `output`, the
+ * output's further bytes are as before, and the ticket is the ledger's last. `output_len` has to be TICKETS_LONGEST_RECORD at least,
+ * whatever the ticket.
  *
- * Any other error: refused. `value` is 0, and the ledger and the output are as before. The first check that fails answers, in this order:
+ * Any other error: nothing was granted. The ledger and the output are as before, and the `value` 0 is not a length and not ticket 0. The
+ * first check that fails answers, in this order (R6.2):
  *
  *   60                  the request is unreadable (see tickets_read_request)
  *   52                  `output_len` is under TICKETS_LONGEST_RECORD
@@ -108,15 +112,18 @@ tickets_answer tickets_request(uint64_t *accounts, uint64_t *ledger, const uint8
                                uint8_t *output, size_t output_len);
 
 /* The descent of ticket `number`: how many steps back it is to its initial ticket, from a delegated ticket to its evidence, from a direct
- * or self-issued one to its TGT.
+ * or self-issued one to its TGT (R7.4).
  *
  *   error 0: `value` is the steps, 0 for an initial ticket.
  *   41 (TICKETS_KRB_AP_ERR_MODIFIED): the ledger has no ticket of that number, or a back number on the way is not held or does not fall;
- *   neither happens for a ticket that tickets_request granted. */
+ *   neither happens for a ticket that tickets_request granted.
+ *
+ * It recurses at most once for each step. A ticket that calls made has at most nine steps (R9.2). Words that no calls make have at most 511,
+ * which take some 25 KB of stack. */
 tickets_answer tickets_descent(const uint64_t *ledger, uint32_t number);
 
 /* The day total: the seconds from start to end of each ticket in the ledger, added up. A ticket whose end is not later than its start
- * counts 0. */
+ * counts 0 (R7.5). */
 uint64_t tickets_day_total(const uint64_t *ledger);
 
 /* ---- The same over a tickets_service. */
@@ -148,9 +155,9 @@ static inline uint64_t tickets_service_day_total(const tickets_service *service)
     return tickets_day_total(service->ledger);
 }
 
-/* ---- The record layer's readers and writer (document 01, "Ticket records" and "Requests"). */
+/* ---- The record layer's readers and writer (R3, R4). */
 
-/* Reads the ticket record of `record_len` bytes at `record`, and writes the ticket's record to the start of `output`.
+/* Reads the ticket record of `record_len` bytes at `record`, and writes the ticket's record to the start of `output` (R3.5, R3.7).
  *
  *   error 0    the record was readable. `value` is its length, 17 to 31, and that many bytes at `output` are the same as those at
  *              `record`. The output's further bytes are as before.
@@ -162,7 +169,7 @@ tickets_answer tickets_rewrite(const uint8_t *record, size_t record_len, uint8_t
 
 /* The places of `fields` that tickets_read_request fills. */
 enum {
-    TICKETS_REQUEST_KIND,            /* 1 initial, 2 direct, 3 S4U2self, 4 S4U2proxy */
+    TICKETS_REQUEST_KIND,            /* 1 initial, 2 direct, 3 S4U2self, 4 S4U2proxy (R4.2) */
     TICKETS_REQUEST_OPTIONS,         /* 0 where there are none */
     TICKETS_REQUEST_PAC_OPTIONS,     /* 0 where there are none */
     TICKETS_REQUEST_TILL,            /* in seconds; 0 is no wish */
@@ -175,7 +182,7 @@ enum {
     TICKETS_REQUEST_FIELDS           /* how many places there are: 10 */
 };
 
-/* Reads the request of `request_len` bytes at `request`, and puts its numbers to `fields`, which has TICKETS_REQUEST_FIELDS places.
+/* Reads the request of `request_len` bytes at `request` (R4.3), and puts its numbers to `fields`, which has TICKETS_REQUEST_FIELDS places.
  * The names stay where they are, in the request's bytes, and need not end in a zero byte.
  *
  *   0    the request was readable, and all of `fields` is set.
