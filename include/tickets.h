@@ -51,11 +51,18 @@ typedef struct {
  * functions below write to it, one at a time. Its words may be copied, stored and brought back as they are; they have no pointers. Any
  * other words are safe too: they stand for some accounts and some tickets (R1.3, foreign state). */
 
-/* How many words the accounts have, and how many the ledger has. */
-#define TICKETS_ACCOUNTS 384
-#define TICKETS_LEDGER 2049
+/* The layout of the words. Words that were stored under another number are not to be read by these functions: they would be taken for other
+ * accounts and other tickets. A caller who keeps words keeps this number beside them. */
+#define TICKETS_LAYOUT 2
 
-/* The memory of one service, 19464 bytes. */
+/* How many words the accounts have: a header of 8, which are free, and 8 for each of 64 accounts, of which the last two are free. */
+#define TICKETS_ACCOUNTS 520
+
+/* How many words the ledger has: a header of 8, of which the first is the count of tickets, the second is kept for the next number and the
+ * others are free; 128 with the tickets' numbers, four in a word; and 4 for each of 512 places. */
+#define TICKETS_LEDGER 2184
+
+/* The memory of one service, 21632 bytes. Free words are 0 in a fresh service, and no call reads or writes them otherwise. */
 typedef struct {
     uint64_t accounts[TICKETS_ACCOUNTS];
     uint64_t ledger[TICKETS_LEDGER];
@@ -86,8 +93,9 @@ void tickets_fresh(uint64_t *accounts, uint64_t *ledger);
 uint32_t tickets_edit(uint64_t *accounts, uint32_t number, const uint8_t *name, size_t name_len, uint32_t flags, uint64_t send,
                       uint64_t receive, uint32_t lifetime);
 
-/* Answers the request of `request_len` bytes at `request` (R4), at the clock reading `clock`, in seconds. The accounts are read only. For an
- * initial ticket (kind 1) the caller has checked the user's password before (R1.1).
+/* Answers the request of `request_len` bytes at `request` (R4), at the clock reading `clock`, in seconds. For an initial
+ * ticket (kind 1) the caller has checked the user's password before (R1.1). Whatever it answers, a request leaves the accounts' words as they
+ * are; they are lent to be written all the same, as those of the ledger are.
  *
  * error 0: granted (R7.3). `value` is the length of the new ticket's record, 17 to 31; the record stands at the start of `output`, the
  * output's further bytes are as before, and the ticket is the ledger's last. `output_len` has to be TICKETS_LONGEST_RECORD at least,

@@ -11,7 +11,7 @@ mod tally;
 
 use crate::accounts::Edit;
 use crate::library::Service;
-use crate::limits::{ACCOUNT_LIMIT, PLACE_SIZE, ROW_SIZE, TICKET_LIMIT};
+use crate::limits::{ACCOUNT_LIMIT, HEADER_SIZE, NUMBERS_SIZE, PLACE_SIZE, ROW_SIZE, TICKET_LIMIT};
 use crate::record::read_request;
 use crate::words::{place_at, row_at};
 use std::fmt;
@@ -94,11 +94,16 @@ impl fmt::Display for History {
     }
 }
 
-/// Prints the rows and places whose words are not all 0.
+/// Prints the headers, rows, numbers and places whose words are not all 0.
 fn print_words(f: &mut fmt::Formatter, words: &Service) -> fmt::Result {
     writeln!(f, "  from words, 0 but for: count {:#x}", words.ledger[0])?;
+    print_some(f, "header", 0, &words.accounts[..HEADER_SIZE])?;
+    print_some(f, "header", 1, &words.ledger[..HEADER_SIZE])?;
     for number in 0..ACCOUNT_LIMIT {
         print_some(f, "account", number, &words.accounts[row_at(number)..][..ROW_SIZE])?;
+    }
+    for (index, word) in words.ledger[HEADER_SIZE..][..NUMBERS_SIZE].iter().enumerate() {
+        print_some(f, "numbers", index, &[*word])?;
     }
     for place in 0..TICKET_LIMIT {
         print_some(f, "place", place, &words.ledger[place_at(place)..][..PLACE_SIZE])?;

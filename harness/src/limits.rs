@@ -19,14 +19,22 @@ pub const TICKET_LIMIT: usize = 512;
 /// R1.2: the last second that a time can be, 4294967295.
 pub const LAST_SECOND: u32 = u32::MAX;
 
-/// The words of an account's row.
-pub const ROW_SIZE: usize = 6;
+/// The words in front of the rows, and in front of the ledger's numbers.
+pub const HEADER_SIZE: usize = 8;
+
+/// The words of an account's row, and how many of them an edit sets.
+pub const ROW_SIZE: usize = 8;
+pub const ROW_WORDS: usize = 6;
 
 /// The words of a ledger place.
 pub const PLACE_SIZE: usize = 4;
 
-/// The words of all accounts, 384.
-pub const ACCOUNTS_SIZE: usize = ROW_SIZE * ACCOUNT_LIMIT;
+/// How many tickets' numbers stand in a word, and the words of all of them.
+pub const NUMBERS_IN_WORD: usize = 4;
+pub const NUMBERS_SIZE: usize = TICKET_LIMIT / NUMBERS_IN_WORD;
 
-/// The words of the ledger, 2049: the stored count, and all places.
-pub const LEDGER_SIZE: usize = 1 + PLACE_SIZE * TICKET_LIMIT;
+/// The words of all accounts, 520.
+pub const ACCOUNTS_SIZE: usize = HEADER_SIZE + ROW_SIZE * ACCOUNT_LIMIT;
+
+/// The words of the ledger, 2184: the header, the numbers, and all places.
+pub const LEDGER_SIZE: usize = HEADER_SIZE + NUMBERS_SIZE + PLACE_SIZE * TICKET_LIMIT;

@@ -2,14 +2,17 @@
 //! service; what a call stores are exactly the words given here.
 
 use crate::accounts::{Account, Edit, Name, Table};
-use crate::limits::{ACCOUNTS_SIZE, LEDGER_SIZE, NAME_LIMIT, PLACE_SIZE, ROW_SIZE, TICKET_LIMIT};
+use crate::limits::{
+    ACCOUNTS_SIZE, HEADER_SIZE, LEDGER_SIZE, NAME_LIMIT, NUMBERS_IN_WORD, NUMBERS_SIZE, PLACE_SIZE,
+    ROW_WORDS, ROW_SIZE, TICKET_LIMIT,
+};
 use crate::record::{Origin, Ticket};
 use crate::service::Service;
 
-/// The words of all accounts.
+/// The words of the accounts: a header, and those of the rows.
 pub type AccountWords = [u64; ACCOUNTS_SIZE];
 
-/// The words of the ledger: the stored count, and those of its places.
+/// The words of the ledger: a header with the stored count, the numbers, and those of its places.
 pub type LedgerWords = [u64; LEDGER_SIZE];
 
 /// The tags of a ticket's origin; every other one is that of a delegated ticket too.
@@ -33,7 +36,8 @@ pub fn table(accounts: &AccountWords) -> Table {
 
 /// The tickets that the words stand for.
 pub fn tickets(ledger: &LedgerWords) -> Vec<Ticket> {
-    (0..count_held(ledger)).map(|place| ticket(&ledger[place_at(place)..][..PLACE_SIZE])).collect()
+    let ticket_at = |place| ticket(number(ledger, place), &ledger[place_at(place)..][..PLACE_SIZE]);
+    (0..count_held(ledger)).map(ticket_at).collect()
 }
 
 /// R7.1: how many tickets are held: as many as the stored count says, and no more than the limit.
@@ -43,12 +47,33 @@ pub fn count_held(ledger: &LedgerWords) -> usize {
 
 /// Where the words of an account start.
 pub fn row_at(number: usize) -> usize {
-    ROW_SIZE * number
+    HEADER_SIZE + ROW_SIZE * number
+}
+
+/// The word that has the number of a place.
+pub fn number_at(place: usize) -> usize {
+    HEADER_SIZE + place / NUMBERS_IN_WORD
+}
+
+/// The lowest bit of that number in its word.
+fn number_bit(place: usize) -> usize {
+    16 * (place % NUMBERS_IN_WORD)
+}
+
+/// The number of the ticket at a place.
+pub fn number(ledger: &LedgerWords, place: usize) -> u16 {
+    (ledger[number_at(place)] >> number_bit(place)) as u16
+}
+
+/// Sets the number of a place, and no other.
+pub fn put_number(ledger: &mut LedgerWords, place: usize, number: u16) {
+    let word = &mut ledger[number_at(place)];
+    *word = *word & !(0xFFFF << number_bit(place)) | u64::from(number) << number_bit(place);
 }
 
 /// Where the words of a place start.
 pub fn place_at(place: usize) -> usize {
-    1 + PLACE_SIZE * place
+    HEADER_SIZE + NUMBERS_SIZE + PLACE_SIZE * place
 }
 
 /// The account of a row's words; it is set where the stored length is one that a name has.
@@ -68,7 +93,7 @@ fn account(words: &[u64]) -> Option<Account> {
 }
 
 /// The words of an account that an edit sets.
-pub fn row_words(account: &Account) -> [u64; ROW_SIZE] {
+pub fn row_words(account: &Account) -> [u64; ROW_WORDS] {
     let mut bytes = [0; NAME_LIMIT];
     bytes[..account.name().len()].copy_from_slice(account.name());
     let name = |at: usize| (0..8).fold(0, |word, i| word | u64::from(bytes[at + i]) << (8 * i));
@@ -77,30 +102,30 @@ pub fn row_words(account: &Account) -> [u64; ROW_SIZE] {
     [name(0), name(8), name(16), details, account.send, account.receive]
 }
 
-/// The ticket of a place's words.
-fn ticket(words: &[u64]) -> Ticket {
+/// The ticket of a number and a place's words.
+fn ticket(number: u16, words: &[u64]) -> Ticket {
     let tgt = (words[2] >> 32) as u16;
     let evidence = (words[2] >> 48) as u16;
     Ticket {
-        number: words[0] as u16,
-        client: (words[0] >> 16) as u8,
-        service: (words[0] >> 24) as u8,
-        flags: (words[0] >> 32) as u32,
+        number,
+        flags: words[0] as u32,
+        client: (words[0] >> 32) as u8,
+        service: (words[0] >> 40) as u8,
+        hops: (words[0] >> 48) as u8,
         start: words[1] as u32,
         end: (words[1] >> 32) as u32,
-        origin: match words[2] as u8 {
+        origin: match (words[0] >> 56) as u8 % 16 {
             INITIAL => Origin::Initial,
             DIRECT => Origin::Direct { tgt },
             S4U2SELF => Origin::S4U2self { tgt },
             _ => Origin::Delegated { tgt, evidence },
         },
-        barred: (words[2] >> 8) as u8 == MARK,
-        hops: (words[2] >> 16) as u8,
+        barred: (words[0] >> 60) as u8 == MARK,
         trail: words[3].to_le_bytes(),
     }
 }
 
-/// The words of a ticket that a grant stores.
+/// The words of a ticket that a grant stores, beside its number.
 pub fn ticket_words(ticket: &Ticket) -> [u64; PLACE_SIZE] {
     let (tag, tgt, evidence) = match ticket.origin {
         Origin::Initial => (INITIAL, 0, 0),
@@ -110,21 +135,20 @@ pub fn ticket_words(ticket: &Ticket) -> [u64; PLACE_SIZE] {
     };
     let mark = if ticket.barred { MARK } else { 0 };
     [
-        u64::from(ticket.number)
-            | u64::from(ticket.client) << 16
-            | u64::from(ticket.service) << 24
-            | u64::from(ticket.flags) << 32,
+        u64::from(ticket.flags)
+            | u64::from(ticket.client) << 32
+            | u64::from(ticket.service) << 40
+            | u64::from(ticket.hops) << 48
+            | u64::from(tag) << 56
+            | u64::from(mark) << 60,
         u64::from(ticket.start) | u64::from(ticket.end) << 32,
-        u64::from(tag)
-            | u64::from(mark) << 8
-            | u64::from(ticket.hops) << 16
-            | u64::from(tgt) << 32
-            | u64::from(evidence) << 48,
+        u64::from(tgt) << 32 | u64::from(evidence) << 48,
         u64::from_le_bytes(ticket.trail),
     ]
 }
 
-/// Stores an edit that is accepted: the words of its account change, and no others.
+/// Stores an edit that is accepted: the words of its account change, but for those that are free, and
+/// no others.
 pub fn store_edit(accounts: &mut AccountWords, edit: &Edit) {
     let Edit { number, name, flags, send, receive, lifetime } = *edit;
     let name = Name::new(name).expect("an accepted edit has a good name");
@@ -134,13 +158,14 @@ pub fn store_edit(accounts: &mut AccountWords, edit: &Edit) {
 
 /// Sets the words of an account.
 pub fn store_account(accounts: &mut AccountWords, number: usize, account: &Account) {
-    accounts[row_at(number)..][..ROW_SIZE].copy_from_slice(&row_words(account));
+    accounts[row_at(number)..][..ROW_WORDS].copy_from_slice(&row_words(account));
 }
 
-/// Stores a granted ticket: the words of the first place that is not held change, the count becomes
-/// that place's number and one, and no other word changes.
+/// Stores a granted ticket: the number and the words of the first place that is not held change, the
+/// count becomes that place's index and one, and nothing else changes.
 pub fn store_ticket(ledger: &mut LedgerWords, ticket: &Ticket) {
     let place = count_held(ledger);
+    put_number(ledger, place, ticket.number);
     ledger[place_at(place)..][..PLACE_SIZE].copy_from_slice(&ticket_words(ticket));
     ledger[0] = place as u64 + 1;
 }
@@ -175,11 +200,22 @@ mod tests {
     #[test]
     fn a_ticket_is_laid_out_as_documented() {
         let words = ticket_words(&read_ticket(TICKET_2).unwrap());
-        assert_eq!(words, [0x4000_0000_0200_0002, 0x0000_9088_0000_03fc, 0x0001_0000_0001_0003, 1]);
+        assert_eq!(words, [0x0301_0200_4000_0000, 0x0000_9088_0000_03fc, 0x0001_0000_0000_0000, 1]);
         for record in [TICKET_0, TICKET_2] {
             let ticket = read_ticket(record).unwrap();
-            assert_eq!(super::ticket(&ticket_words(&ticket)), ticket);
+            assert_eq!(super::ticket(ticket.number, &ticket_words(&ticket)), ticket);
         }
+    }
+
+    #[test]
+    fn numbers_stand_four_in_a_word_the_lowest_first() {
+        let mut ledger = [0; LEDGER_SIZE];
+        for place in 0..8 {
+            put_number(&mut ledger, place, 0xFFFF);
+            put_number(&mut ledger, place, 0x1111 * (place as u16 + 1));
+        }
+        assert_eq!(ledger[8..11], [0x4444_3333_2222_1111, 0x8888_7777_6666_5555, 0]);
+        assert_eq!((number(&ledger, 6), place_at(0), row_at(1)), (0x7777, 136, 16));
     }
 
     #[test]

@@ -208,7 +208,7 @@ int main(void)
 {
     static tickets_service one;
     static tickets_service other;
-    expect(sizeof one == 19464, "the memory of a service");
+    expect(sizeof one == 21632, "the memory of a service");
     morning(&OVER_SERVICE, &one, 1);
     morning(&PLAIN, &other, 0);
     expect(memcmp(&one, &other, sizeof one) == 0, "the same words by either way");

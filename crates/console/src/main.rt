@@ -14,7 +14,9 @@
 //
 // Words are parted by one space. Numbers are decimal, or hexadecimal after 0x; bytes are hexadecimal, `-` for none; a name is as it is.
 // A line that is no call changes nothing, and is answered by `? LINE: what is wrong`.
+use definitions::ACCOUNTS_SIZE;
 use definitions::Descended;
+use definitions::LEDGER_SIZE;
 use definitions::LONGEST_RECORD;
 use definitions::Ticket;
 use definitions::Written;
@@ -587,11 +589,9 @@ fn call_edit(accounts: &mut AccountWords, line: &[u8]) -> Wrong {
     Wrong::Nothing
 }
 
-// Prints the error number, and from the output the record of a ticket that was granted.
-fn print_decision(error: u32, ticket: Ticket, output: &[u8]) {
+// Prints the error number, and from the output the record of a grant.
+fn print_reply(error: u32, length: usize, output: &[u8]) {
     if error == 0 {
-        let mut copy = [0u8; LONGEST_RECORD];
-        let length = record_length(ticket, &mut copy);
         print_bytes(0, first(output, length));
     } else {
         print_error(error);
@@ -600,21 +600,20 @@ fn print_decision(error: u32, ticket: Ticket, output: &[u8]) {
 
 // Sends a request with this output, and prints the answer.
 fn send_to(
-    accounts: &AccountWords,
+    accounts: &mut AccountWords,
     ledger: &mut LedgerWords,
     bytes: &[u8],
     clock: Number,
     output: &mut [u8],
 ) {
-    let decision = ledger::request(accounts, ledger, bytes, low_32(clock), output);
-    let answer = decision.answer;
-    let ticket = decision.ticket;
-    print_decision(record::answer_number(answer), ticket, output);
+    let reply = ledger::request(accounts, ledger, bytes, low_32(clock), output);
+    let answer = reply.answer;
+    print_reply(record::answer_number(answer), reply.length, output);
 }
 
 // Sends a request with an output of so many bytes, at most 64.
 fn send(
-    accounts: &AccountWords,
+    accounts: &mut AccountWords,
     ledger: &mut LedgerWords,
     bytes: &[u8],
     clock: Number,
@@ -629,7 +628,7 @@ fn send(
     }
 }
 
-fn call_request(accounts: &AccountWords, ledger: &mut LedgerWords, line: &[u8]) -> Wrong {
+fn call_request(accounts: &mut AccountWords, ledger: &mut LedgerWords, line: &[u8]) -> Wrong {
     if !has_arguments(line, 3, 3) {
         return Wrong::Words;
     }
@@ -655,7 +654,7 @@ fn call_request(accounts: &AccountWords, ledger: &mut LedgerWords, line: &[u8]) 
 
 // Puts a name at the end of a request, and sends it.
 fn send_named(
-    accounts: &AccountWords,
+    accounts: &mut AccountWords,
     ledger: &mut LedgerWords,
     space: &mut Space,
     at: usize,
@@ -670,7 +669,7 @@ fn send_named(
     Wrong::Nothing
 }
 
-fn call_initial(accounts: &AccountWords, ledger: &mut LedgerWords, line: &[u8]) -> Wrong {
+fn call_initial(accounts: &mut AccountWords, ledger: &mut LedgerWords, line: &[u8]) -> Wrong {
     if !has_arguments(line, 2, 4) {
         return Wrong::Words;
     }
@@ -687,7 +686,7 @@ fn call_initial(accounts: &AccountWords, ledger: &mut LedgerWords, line: &[u8]) 
 
 // A request with one ticket, of kind 2 or 3.
 fn call_with_tgt(
-    accounts: &AccountWords,
+    accounts: &mut AccountWords,
     ledger: &mut LedgerWords,
     line: &[u8],
     kind: u8,
@@ -718,7 +717,7 @@ fn hop_options(line: &[u8]) -> Number {
     }
 }
 
-fn call_proxy(accounts: &AccountWords, ledger: &mut LedgerWords, line: &[u8]) -> Wrong {
+fn call_proxy(accounts: &mut AccountWords, ledger: &mut LedgerWords, line: &[u8]) -> Wrong {
     if !has_arguments(line, 4, 7) {
         return Wrong::Words;
     }
@@ -985,8 +984,8 @@ fn serve(accounts: &mut AccountWords, ledger: &mut LedgerWords) {
 }
 
 fn main() {
-    let mut accounts: AccountWords = [0u64; 384];
-    let mut ledger: LedgerWords = [0u64; 2049];
+    let mut accounts: AccountWords = [0u64; ACCOUNTS_SIZE];
+    let mut ledger: LedgerWords = [0u64; LEDGER_SIZE];
     ledger::fresh(&mut accounts, &mut ledger);
     serve(&mut accounts, &mut ledger);
 }

@@ -3,7 +3,7 @@
 use mathlib.Core.Path.{_≡_, refl, sym, ap, _∙_}
 use mathlib.Core.Bool.{Bool, true, false}
 use mathlib.Core.List.{List, [], _∷_, _++_}
-use Prim.Native.Nat.{ℕ, zero, suc, _+_, _-_, _*_, _/_, _%_, _^_, _≤_, _<_}
+use Prim.Native.Nat.{ℕ, zero, suc, _+_, _*_, _/_, _%_, _^_, _≤_, _<_}
 use native.Mathlib.Nat.{add-zero, zero-add, eq-or-lt-of-le, le-of-suc-le-suc}
 use mathlib.Core.Logic.{_⊎_, inl, inr}
 use native.Mathlib.Numerals.{add-one}
@@ -12,13 +12,13 @@ use lib.ListN.{length, getD, set, replicate, getD-replicate, length-append, leng
 use lib.Seq.{getD-set-same, getD-set-other, getD-at, ext-getD}
 use lib.Dec.{leb, ltb, eqb}
 use borrow.Author.Tests.{leb-true, le-leb, eqb-true, eqb-false, ltb-true, ltb-false}
-use Rattle.definitions.specs.Limits.{accountLimit, accountsSize, nameLimit, rowSize, two32}
+use Rattle.definitions.specs.Limits.{accountLimit, accountsSize, nameLimit, byteBits, detailWord, sendWord, receiveWord, two32}
 use Rattle.definitions.proofs.Bools.{and-right}
 use Rattle.definitions.specs.Fields.{Bytes}
 use Rattle.definitions.specs.Accounts.{Row, noRow, rowOf, noAccounts}
-use Rattle.definitions.specs.Words.{byteAt, packAt}
-use Rattle.definitions.specs.AccountWords.{nameAt, detailAt, lengthAt, setLength, accountIn, rowAt, rowsFrom, tableOf, rowWords, storeRow}
-use Rattle.definitions.proofs.Words.{pack-digit, put-at, put-length, put-other}
+use Rattle.definitions.specs.Words.{laneAt, packAt}
+use Rattle.definitions.specs.AccountWords.{rowStart, rowWord, nameAt, detailAt, lengthAt, setLength, accountIn, rowAt, rowsFrom, tableOf, rowWords, storeRow}
+use Rattle.definitions.proofs.Words.{pack-lane, put-at, put-length, put-other}
 
 -- the rows of a table
 pub rows-length : (w : List ℕ) (n k : ℕ) → length (rowsFrom w n k) ≡ k
@@ -42,7 +42,7 @@ pub row-above : (w : List ℕ) (i : ℕ) → accountLimit ≤ i → rowOf (table
 row-above w i h = List·getD-eq-default (tableOf w) noRow (rw rows-length h)
 
 -- the row of a stored length that is that of a set row, and of another
-pub row-set : (w : List ℕ) (n : ℕ) → setLength (lengthAt w n) ≡ true → rowAt w n ≡ record { name = nameAt w (rowSize * n) (lengthAt w n); account = accountIn w n }
+pub row-set : (w : List ℕ) (n : ℕ) → setLength (lengthAt w n) ≡ true → rowAt w n ≡ record { name = nameAt w (rowStart n) (lengthAt w n); account = accountIn w n }
 unfolding rowAt
 row-set w n h = rw h
 
@@ -61,56 +61,56 @@ snoc-at : (l : List ℕ) (b k n : ℕ) → length l ≡ n → (k ≡ n) ⊎ (k <
 snoc-at l b k n e (inl q) f h r = rw q (getD-at l b [] 0 n e ∙ h)
 snoc-at l b k n e (inr q) f h r = List·getD-append l (b ∷ []) 0 k (rw e q) ∙ r q
 
-pub name-byte : (w : List ℕ) (i n k : ℕ) → k < n → getD (nameAt w i n) k 0 ≡ byteAt w i k
+pub name-byte : (w : List ℕ) (i n k : ℕ) → k < n → getD (nameAt w i n) k 0 ≡ laneAt byteBits w i k
 unfolding nameAt
 name-byte w i zero k h = absurd (omega arith)
 name-byte w i (suc n) k h =
-    snoc-at (nameAt w i n) (byteAt w i n) k n (name-length w i n) (eq-or-lt-of-le (le-of-suc-le-suc h)) (byteAt w i) refl (name-byte w i n k)
+    snoc-at (nameAt w i n) (laneAt byteBits w i n) k n (name-length w i n) (eq-or-lt-of-le (le-of-suc-le-suc h)) (laneAt byteBits w i) refl (name-byte w i n k)
 
 pub store-length : (w : List ℕ) (n : ℕ) (x : Row) → length (storeRow w n x) ≡ length w
 unfolding storeRow
-store-length w n x = put-length (rowWords x) w (rowSize * n)
+store-length w n x = put-length (rowWords x) w (rowStart n)
 
 -- two names of the same bytes
-name-same : (w v : List ℕ) (i n : ℕ) → ((k : ℕ) → k < n → byteAt w i k ≡ byteAt v i k) → nameAt w i n ≡ nameAt v i n
+name-same : (w v : List ℕ) (i n : ℕ) → ((k : ℕ) → k < n → laneAt byteBits w i k ≡ laneAt byteBits v i k) → nameAt w i n ≡ nameAt v i n
 unfolding nameAt
 name-same w v i zero h = refl
 name-same w v i (suc n) h = rw (name-same w v i n (λ k l. h k (omega arith)), h n (omega arith))
 
--- rows of six words do not overlap
-apart : (i n k : ℕ) → (i ≡ n → ⊥) → k < 6 → rowSize * n ≤ rowSize * i + k → rowSize * n + 6 ≤ rowSize * i + k
+-- the six words of a row that are set do not overlap another row
+apart : (i n k : ℕ) → (i ≡ n → ⊥) → k < 6 → rowStart n ≤ rowStart i + k → rowStart n + 6 ≤ rowStart i + k
 apart i n k d h l = by (eq-or-lt-of-le le)
   where
     le : n ≤ i
     le = omega arith
 
-    by : (n ≡ i) ⊎ (n < i) → rowSize * n + 6 ≤ rowSize * i + k
+    by : (n ≡ i) ⊎ (n < i) → rowStart n + 6 ≤ rowStart i + k
     by (inl e) = absurd (d (sym e))
     by (inr q) = omega arith
 
 -- what storing row n leaves of another row
 module _ (w : List ℕ) (n i : ℕ) (x : Row) (d : i ≡ n → ⊥) where
-  word-kept : (k : ℕ) → k < 6 → getD (storeRow w n x) (rowSize * i + k) 0 ≡ getD w (rowSize * i + k) 0
+  word-kept : (k : ℕ) → k < 6 → rowWord (storeRow w n x) i k ≡ rowWord w i k
   unfolding storeRow
-  word-kept k h = put-other (rowWords x) w (rowSize * n) (rowSize * i + k) (apart i n k d h)
+  word-kept k h = put-other (rowWords x) w (rowStart n) (rowStart i + k) (apart i n k d h)
 
-  byte-kept : (k : ℕ) → k < nameLimit → byteAt (storeRow w n x) (rowSize * i) k ≡ byteAt w (rowSize * i) k
-  unfolding byteAt
+  byte-kept : (k : ℕ) → k < nameLimit → laneAt byteBits (storeRow w n x) (rowStart i) k ≡ laneAt byteBits w (rowStart i) k
+  unfolding laneAt
   byte-kept k h = rw (word-kept (k / 8) (omega arith))
 
   same-row : lengthAt (storeRow w n x) i ≡ lengthAt w i → lengthAt w i ≤ nameLimit
-      → _≡_ {A = Row} (record { name = nameAt (storeRow w n x) (rowSize * i) (lengthAt (storeRow w n x) i); account = accountIn (storeRow w n x) i })
-      (record { name = nameAt w (rowSize * i) (lengthAt w i); account = accountIn w i })
+      → _≡_ {A = Row} (record { name = nameAt (storeRow w n x) (rowStart i) (lengthAt (storeRow w n x) i); account = accountIn (storeRow w n x) i })
+      (record { name = nameAt w (rowStart i) (lengthAt w i); account = accountIn w i })
   same-row e l =
-      let s : nameAt (storeRow w n x) (rowSize * i) (lengthAt w i) ≡ nameAt w (rowSize * i) (lengthAt w i) =
-      name-same (storeRow w n x) w (rowSize * i) (lengthAt w i) (λ k r. byte-kept k (omega arith))
+      let s : nameAt (storeRow w n x) (rowStart i) (lengthAt w i) ≡ nameAt w (rowStart i) (lengthAt w i) =
+      name-same (storeRow w n x) w (rowStart i) (lengthAt w i) (λ k r. byte-kept k (omega arith))
       in
-      rw (e, s, word-kept 3 (omega arith), word-kept 4 (omega arith), word-kept 5 (omega arith))
+      rw (e, s, word-kept detailWord (omega arith), word-kept sendWord (omega arith), word-kept receiveWord (omega arith))
 
   -- other rows stay
   pub row-kept : rowAt (storeRow w n x) i ≡ rowAt w i
   row-kept =
-      let e : detailAt (storeRow w n x) i ≡ detailAt w i = word-kept 3 (omega arith) in
+      let e : detailAt (storeRow w n x) i ≡ detailAt w i = word-kept detailWord (omega arith) in
       by (setLength (lengthAt w i)) refl (ap (λ (m : ℕ). m % 256) e)
     where
       by : (p : Bool) → setLength (lengthAt w i) ≡ p → lengthAt (storeRow w n x) i ≡ lengthAt w i → rowAt (storeRow w n x) i ≡ rowAt w i
@@ -130,45 +130,45 @@ pub record Storable (x : Row) : Type 0 where
 
 -- what storing row n puts there
 module _ (w : List ℕ) (n : ℕ) (x : Row) (l : length w ≡ accountsSize) (h : n < accountLimit) (g : Storable x) where
-  word-stored : (k : ℕ) → k < 6 → getD (storeRow w n x) (rowSize * n + k) 0 ≡ getD (rowWords x) k 0
+  word-stored : (k : ℕ) → k < 6 → rowWord (storeRow w n x) n k ≡ getD (rowWords x) k 0
   unfolding storeRow
-  word-stored k r = put-at (rowWords x) w (rowSize * n) k r (omega arith)
+  word-stored k r = put-at (rowWords x) w (rowStart n) k r (omega arith)
 
-  packed-word : (j : ℕ) → j < 3 → getD (rowWords x) j 0 ≡ packAt (x .name) (8 * j) 8
+  packed-word : (j : ℕ) → j < 3 → getD (rowWords x) j 0 ≡ packAt byteBits (x .name) (8 * j) 8
   packed-word zero r = refl
   packed-word (suc zero) r = refl
   packed-word (suc (suc zero)) r = refl
   packed-word (suc (suc (suc j))) r = absurd (omega arith)
 
-  byte-stored : (k : ℕ) → k < nameLimit → byteAt (storeRow w n x) (rowSize * n) k ≡ getD (x .name) k 0
-  unfolding byteAt
+  byte-stored : (k : ℕ) → k < nameLimit → laneAt byteBits (storeRow w n x) (rowStart n) k ≡ getD (x .name) k 0
+  unfolding laneAt
   byte-stored k r =
       let e : 8 * (k / 8) + k % 8 ≡ k = omega arith in
-      rw (word-stored (k / 8) (omega arith), packed-word (k / 8) (omega arith), pack-digit (x .name) (g .bytes) (8 * (k / 8)) 8 (k % 8) (omega arith), e)
+      rw (word-stored (k / 8) (omega arith), packed-word (k / 8) (omega arith), pack-lane byteBits (x .name) (λ i. omega (arith, g .bytes i)) (8 * (k / 8)) 8 (k % 8) (omega arith), e)
 
   length-stored : lengthAt (storeRow w n x) n ≡ length (x .name)
-  length-stored = rw (word-stored 3 (omega arith)) (omega (arith, g .most))
+  length-stored = rw (word-stored detailWord (omega arith)) (omega (arith, g .most))
 
-  name-stored : nameAt (storeRow w n x) (rowSize * n) (length (x .name)) ≡ x .name
+  name-stored : nameAt (storeRow w n x) (rowStart n) (length (x .name)) ≡ x .name
   name-stored =
-      ext-getD 0 (nameAt (storeRow w n x) (rowSize * n) (length (x .name))) (x .name) (name-length (storeRow w n x) (rowSize * n) (length (x .name)))
+      ext-getD 0 (nameAt (storeRow w n x) (rowStart n) (length (x .name))) (x .name) (name-length (storeRow w n x) (rowStart n) (length (x .name)))
       (λ k r.
-      let q : k < length (x .name) = rw (name-length (storeRow w n x) (rowSize * n) (length (x .name))) at r in
-      name-byte (storeRow w n x) (rowSize * n) (length (x .name)) k q ∙ byte-stored k (omega (arith, g .most)))
+      let q : k < length (x .name) = rw (name-length (storeRow w n x) (rowStart n) (length (x .name))) at r in
+      name-byte (storeRow w n x) (rowStart n) (length (x .name)) k q ∙ byte-stored k (omega (arith, g .most)))
 
   flags-stored : detailAt (storeRow w n x) n / 256 % 256 ≡ x .account .flags
-  flags-stored = rw (word-stored 3 (omega arith)) (omega (arith, g .most, g .flags))
+  flags-stored = rw (word-stored detailWord (omega arith)) (omega (arith, g .most, g .flags))
 
   lifetime-stored : detailAt (storeRow w n x) n / two32 % two32 ≡ x .account .lifetime
-  lifetime-stored = rw (word-stored 3 (omega arith)) (omega (arith, g .most, g .flags, g .lifetime))
+  lifetime-stored = rw (word-stored detailWord (omega arith)) (omega (arith, g .most, g .flags, g .lifetime))
 
   account-stored : accountIn (storeRow w n x) n ≡ x .account
   account-stored i =
       record {
         known = sym (g .known) i;
         flags = flags-stored i;
-        send = word-stored 4 (omega arith) i;
-        receive = word-stored 5 (omega arith) i;
+        send = word-stored sendWord (omega arith) i;
+        receive = word-stored receiveWord (omega arith) i;
         lifetime = lifetime-stored i;
       }
 
@@ -206,7 +206,7 @@ none-at i = by (ltb i accountsSize) refl
 rows-none : (n k : ℕ) → rowsFrom zeros n k ≡ replicate k noRow
 unfolding rowsFrom
 rows-none n zero = refl
-rows-none n (suc k) = rw (row-unset zeros n (rw (none-at (rowSize * n + 3))), rows-none (n + 1) k)
+rows-none n (suc k) = rw (row-unset zeros n (rw (none-at (rowStart n + detailWord))), rows-none (n + 1) k)
 
 -- words that are all 0 are a table without accounts
 pub table-none : tableOf (replicate accountsSize 0) ≡ noAccounts

@@ -4,12 +4,13 @@ use mathlib.Core.Path.{_≡_, refl, sym, ap, _∙_}
 use mathlib.Core.Bool.{Bool, true, false, cond, false≢true}
 use mathlib.Core.List.{List}
 use mathlib.Core.Option.{Option, some, none}
-use Prim.Native.Nat.{ℕ, zero, suc, _+_, _*_, _%_, _≤_, _<_}
-use lib.ListN.{getD}
+use Prim.Native.Nat.{ℕ, zero, suc, _+_, _≤_, _<_}
 use native.Mathlib.Omega.{arith}
 use lib.Dec.{ltb}
 use borrow.Author.Tests.{lt-ltb, le-ltb, ltb-true, ne-eqb}
-use Rattle.definitions.specs.Limits.{placeSize, two16}
+use Rattle.definitions.specs.Limits.{numberBits, numbersStart, two16}
+use Rattle.definitions.specs.Words.{laneAt}
+use Rattle.definitions.proofs.Words.{lane-at-small}
 use Rattle.definitions.specs.declared.ticket.Ticket.{Ticket}
 use Rattle.definitions.specs.declared.decision.Held.{Held}
 use Rattle.definitions.specs.LedgerWords.{ticketIn, ticketAt, countHeld, ticketsFrom, ticketsOf}
@@ -73,7 +74,7 @@ steps-stuck l n t g e b h = rw (e, b, le-ltb g n h)
 number-above : (w : List ℕ) (i k n : ℕ) → two16 ≤ n → firstTicket n (ticketsFrom w i k) ≡ none
 unfolding ticketsFrom ticketAt ticketIn
 number-above w i zero n h = refl
-number-above w i (suc k) n h = rw (ne-eqb (getD w (placeSize * i + 1) 0 % two16) n (λ e. omega arith)) (number-above w (i + 1) k n h)
+number-above w i (suc k) n h = rw (ne-eqb (laneAt numberBits w numbersStart i) n (λ e. omega (arith, lane-at-small numberBits w numbersStart i))) (number-above w (i + 1) k n h)
 
 pub steps-above : (w : List ℕ) (n : ℕ) → two16 ≤ n → descent (ticketsOf w) n ≡ none
 unfolding ticketsOf

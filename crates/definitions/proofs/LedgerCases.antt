@@ -4,31 +4,32 @@
 use mathlib.Core.Path.{_≡_, refl}
 use mathlib.Core.Bool.{Bool, true, false}
 use mathlib.Core.List.{List, [], _∷_, _++_, map}
-use mathlib.Core.Option.{Option, some, none}
+use mathlib.Core.Option.{some, none}
 use Prim.Native.Nat.{ℕ, zero, suc, _+_, _-_}
 use lib.ListN.{length, replicate, set}
+use Rattle.definitions.specs.Limits.{byteBits, rowsStart, accountsSize, countWord, numbersStart, ledgerSize}
 use Rattle.definitions.specs.Errors.{answerNumber}
 use Rattle.definitions.specs.Equality.{sameTicket}
-use Rattle.definitions.specs.Fields.{hasBit, numberAt, bigEndian, run, sizeAt, offsetOf, fieldOf, fieldBytes}
-use Rattle.definitions.specs.TicketRecords.{knownMap, hopsFit, readableAs, originAs, trailOf, readTicket, pairBytes, headBytes, trailBytes, tailBytes, recordAs, recordOf, blankTicket}
+use Rattle.definitions.specs.Fields.{hasBit, numberAt, bigEndian, run, pastField, offsetOf, fieldOf, fieldBytes, bytesTo}
+use Rattle.definitions.specs.TicketRecords.{knownMap, hopsFit, readableAs, originAs, trailOf, readTicket, recordAs, recordOf, blankTicket}
 use Rattle.definitions.specs.Requests.{mapFits, pathOf, embeddedOf, wholeRequest, requestFor, readRequest}
 use Rattle.definitions.specs.Accounts.{Row, noRow, accountAt, noAccounts, isBarred}
 use Rattle.definitions.specs.Names.{goodBytes, goodName, lower, agree, sameName, numberFrom, nameTaken}
 use Rattle.definitions.specs.Edits.{editOf, editRow, editChecks}
-use Rattle.definitions.specs.Decisions.{tgtChecks, evidenceChecks, userChecks, lastChecks, hopChecks, initialChecks, directChecks, s4u2selfChecks, s4u2proxyChecks, decideInitial, decideDirect, decideS4U2self, decideS4U2proxy}
-use Rattle.definitions.specs.Routes.{classicRoute, resourceRoute, isPermitted}
+use Rattle.definitions.specs.Decisions.{tgtChecks, evidenceChecks, userChecks, lastChecks, hopChecks, initialChecks, directChecks, s4u2selfChecks, s4u2proxyChecks, decideInitial, decideDirect, decideS4U2self, decideS4U2proxy, openingChecks}
+use Rattle.definitions.specs.Routes.{classicRoute, resourceRoute, isPermitted, hasRoute}
 use Rattle.definitions.specs.Windows.{initialWindow, grantWindow, hopWindow}
 use Rattle.definitions.specs.NewTickets.{initialTicket, directTicket, s4u2selfTicket, s4u2proxyTicket}
 use Rattle.definitions.specs.HeldTickets.{heldTicket, notHeld, firstHeld}
 use Rattle.definitions.specs.Totals.{dayTotal}
 use Rattle.definitions.specs.Descent.{descent, descended}
-use Rattle.definitions.specs.Words.{byteAt, packAt, putRow}
-use Rattle.definitions.specs.AccountWords.{nameAt, rowAt, rowsFrom, tableOf, storeRow, storedBy, noAccountWords}
-use Rattle.definitions.specs.LedgerWords.{originIn, trailIn, ticketIn, ticketAt, countHeld, heldAt, ticketsFrom, ticketsOf, storeTicket, noTicketWords}
+use Rattle.definitions.specs.Words.{laneOf, lanesOf, packAt, setLane, laneAt, putLane, putRow}
+use Rattle.definitions.specs.AccountWords.{rowWord, nameAt, rowAt, rowsFrom, tableOf, storeRow, storedBy, noAccountWords}
+use Rattle.definitions.specs.LedgerWords.{originIn, ticketIn, ticketAt, countHeld, nextNumber, heldAt, ticketsFrom, ticketsOf, storeTicket, noTicketWords}
 use Rattle.definitions.specs.Answers.{Call, edit, request, Reply, decideRequest, laid}
 use Rattle.definitions.specs.Book.{Note, requestOf, tickets, emptyBook, after, replies}
-use Rattle.definitions.specs.Promises.{freshService, withGrant}
-use Rattle.definitions.specs.History.{Turn}
+use Rattle.definitions.specs.Services.{freshService, withGrant}
+use Rattle.definitions.specs.History.{serviceAfter, repliesTo}
 use Rattle.definitions.specs.Demand.{granted}
 use Rattle.definitions.specs.LawfulDescent.{trailList, serviceIn, isDelegated}
 use Rattle.definitions.specs.declared.error.Error.the-variants.{«KRB_AP_ERR_MODIFIED», «KRB_ERR_GENERIC»}
@@ -84,7 +85,7 @@ one-byte before = replicate (7 - before) 0 ++ (0x80 ∷ replicate before 0)
 
 -- a ledger's words with a stored count
 abbrev counting : ℕ → List ℕ
-counting count = count ∷ replicate 2048 0
+counting count = set noTicketWords countWord count
 
 -- a row whose fields all differ, one with the longest name, and one never set with words all the same
 abbrev row : Row
@@ -95,7 +96,8 @@ long = editRow (editOf 63 (replicate 23 0x61 ++ (0x7A ∷ [])) 1 0xFFFFFFFFFFFFF
 
 -- the row in words, with a stored length, flags 8, a lifetime of 7, both sets full, and bits set that mean nothing
 abbrev stored : ℕ → List ℕ
-stored len = 0x6162636465666768 ∷ 0x6162636465666768 ∷ 0x6162636465666768 ∷ (len + 0x00000007ABCD0800) ∷ 0xFFFFFFFFFFFFFFFF ∷ 0xFFFFFFFFFFFFFFFF ∷ []
+stored len =
+    replicate rowsStart 0xFFFFFFFFFFFFFFFF ++ 0x6162636465666768 ∷ 0x6162636465666768 ∷ 0x6162636465666768 ∷ (len + 0x00000007ABCD0800) ∷ 0xFFFFFFFFFFFFFFFF ∷ 0xFFFFFFFFFFFFFFFF ∷ []
 
 -- ---- The plain book: `tech` is set, gets a ticket, is barred, is refused an edit and a request, and gets another
 abbrev calls : List Call
@@ -118,14 +120,6 @@ second = ticket 1 0x00400000 0 0 4 104 Initial [] true
 abbrev noted-bar : Note → Bool
 noted-bar note = isBarred (accountAt (note .table) 0)
 
--- turns: an edit, a grant, a refusal
-abbrev turns : List Turn
-turns =
-    record { call = edit (editOf 0 tech 0 0 0 100); reply = record { answer = Accepted; ticket = a; output = [] } }
-    ∷ record { call = request W1 5 []; reply = record { answer = Accepted; ticket = b; output = [] } }
-    ∷ record { call = request W1 5 []; reply = record { answer = Refused «KRB_ERR_GENERIC»; ticket = c; output = [] } }
-    ∷ record { call = request W1 5 []; reply = record { answer = Accepted; ticket = d; output = [] } } ∷ []
-
 pub record LedgerCases : Type 0 where
   -- R7.1: the first ticket of a number; nothing of one that no ticket has
   pub first-held : firstHeld ledger 1 ≡ heldTicket (of-origin 1 (Direct 0))
@@ -142,25 +136,30 @@ pub record LedgerCases : Type 0 where
   -- R7.1, R7.3: the words hold the tickets put in, in their order; a count beyond the places reads as 512
   pub tickets-stored : ticketsOf (storeTicket (storeTicket (storeTicket (storeTicket noTicketWords a) b) c) d) ≡ a ∷ b ∷ c ∷ d ∷ []
   pub held-places : heldAt (storeTicket (storeTicket noTicketWords a) b) 0 ∷ heldAt (storeTicket (storeTicket noTicketWords a) b) 1 ∷ heldAt (storeTicket (storeTicket noTicketWords a) b) 2 ∷ [] ≡ heldTicket a ∷ heldTicket b ∷ notHeld ∷ []
-  pub origins-in : map originIn (0xAAAABBBB00000000 ∷ 0xAAAABBBB00000001 ∷ 0xAAAABBBB00000002 ∷ 0xAAAABBBB00000003 ∷ 0xAAAABBBB00000004 ∷ 0xAAAABBBBCCDDEE01 ∷ []) ≡ Initial ∷ Direct 0xBBBB ∷ S4U2self 0xBBBB ∷ Delegated 0xBBBB 0xAAAA ∷ Delegated 0xBBBB 0xAAAA ∷ Direct 0xBBBB ∷ []
-  pub marks-in : map (λ third. ticketIn 0 0 third 0 .barred) (0 ∷ 0x0100 ∷ 0x0200 ∷ 0xFF00 ∷ 0x10100 ∷ []) ≡ false ∷ true ∷ false ∷ false ∷ true ∷ []
-  pub trails-in : map trailIn (0xFFFFFFFFFFFFFFFF ∷ 0x8000000000000000 ∷ 0x0080000000000000 ∷ 0x0000800000000000 ∷ 0x0000008000000000 ∷ 0x0000000080000000 ∷ 0x0000000000800000 ∷ 0x0000000000008000 ∷ [])
+  pub origins-in : map (λ tag. originIn tag 0xBBBB 0xAAAA) (0 ∷ 1 ∷ 2 ∷ 3 ∷ 4 ∷ 15 ∷ []) ≡ Initial ∷ Direct 0xBBBB ∷ S4U2self 0xBBBB ∷ Delegated 0xBBBB 0xAAAA ∷ Delegated 0xBBBB 0xAAAA ∷ Delegated 0xBBBB 0xAAAA ∷ []
+  pub tags-in : map (λ first. ticketIn 0 first 0 0xAAAABBBBCCDDEEFF 0 .origin) (0xF0FFFFFFFFFFFFFF ∷ 0xF1FFFFFFFFFFFFFF ∷ 0x02 ∷ []) ≡ Initial ∷ Direct 0xBBBB ∷ Initial ∷ []
+  pub marks-in : map (λ first. ticketIn 0 first 0 0 0 .barred) (0 ∷ 0x1000000000000000 ∷ 0x2000000000000000 ∷ 0xF000000000000000 ∷ 0x1FFFFFFFFFFFFFFF ∷ []) ≡ false ∷ true ∷ false ∷ false ∷ true ∷ []
+  pub numbers-in : map (λ place. ticketAt (replicate numbersStart 0 ++ (0x4444333322221111 ∷ 0x8888777766665555 ∷ [])) place .number) (0 ∷ 1 ∷ 2 ∷ 3 ∷ 4 ∷ 7 ∷ 8 ∷ []) ≡ 0x1111 ∷ 0x2222 ∷ 0x3333 ∷ 0x4444 ∷ 0x5555 ∷ 0x8888 ∷ 0 ∷ []
+  pub trails-in : map (λ fourth. ticketIn 0 0 0 0 fourth .trail) (0xFFFFFFFFFFFFFFFF ∷ 0x8000000000000000 ∷ 0x0080000000000000 ∷ 0x0000800000000000 ∷ 0x0000008000000000 ∷ 0x0000000080000000 ∷ 0x0000000000800000 ∷ 0x0000000000008000 ∷ [])
       ≡ replicate 8 0xFF ∷ one-byte 0 ∷ one-byte 1 ∷ one-byte 2 ∷ one-byte 3 ∷ one-byte 4 ∷ one-byte 5 ∷ one-byte 6 ∷ []
   pub counts : map (λ count. countHeld (counting count)) (0 ∷ 1 ∷ 511 ∷ 512 ∷ 513 ∷ 0xFFFFFFFFFFFFFFFF ∷ []) ≡ 0 ∷ 1 ∷ 511 ∷ 512 ∷ 512 ∷ 512 ∷ []
   pub count-cut : countHeld [] ≡ 0
+  pub next-numbers : nextNumber noTicketWords ∷ nextNumber (storeTicket noTicketWords a) ∷ [] ≡ 0 ∷ 1 ∷ []
   pub ticket-cut : ticketAt [] 3 ≡ blankTicket
   pub lengths : map (λ count. length (ticketsOf (counting count))) (0 ∷ 3 ∷ 512 ∷ 600 ∷ []) ≡ 0 ∷ 3 ∷ 512 ∷ 512 ∷ []
   pub last-place : ticketAt (storeTicket (counting 511) a) 511 ≡ a
-  pub last-count : countHeld (storeTicket (counting 511) a) ∷ length (storeTicket (counting 511) a) ∷ [] ≡ 512 ∷ 2049 ∷ []
+  pub last-count : countHeld (storeTicket (counting 511) a) ∷ length (storeTicket (counting 511) a) ∷ [] ≡ 512 ∷ 2184 ∷ []
   -- R2.4, R2.8: the words hold the rows put in; a row is set where its stored length is 1 to 24, whatever else is
   -- stored, and a word that is not there is 0
   pub rows-stored : tableOf (storeRow (storeRow (storeRow (storeRow noAccountWords 3 row) 2 long) 62 long) 63 row) ≡ set (set (set (set noAccounts 3 row) 2 long) 62 long) 63 row
   pub row-unset : rowAt (stored 0) 0 ∷ rowAt (stored 25) 0 ∷ rowAt (stored 255) 0 ∷ rowAt [] 5 ∷ [] ≡ noRow ∷ noRow ∷ noRow ∷ noRow ∷ []
   pub row-set : map (λ n. length (rowAt (stored n) 0 .name)) (1 ∷ 24 ∷ []) ≡ 1 ∷ 24 ∷ []
   pub row-flags : rowAt (stored 1) 0 ≡ editRow (editOf 0 (0x68 ∷ []) 8 0xFFFFFFFFFFFFFFFF 0xFFFFFFFFFFFFFFFF 7)
-  pub row-cut : rowAt (0x61 ∷ 0 ∷ 0 ∷ 1 ∷ []) 0 ≡ editRow (editOf 0 (0x61 ∷ []) 0 0 0 0)
-  pub packed : packAt (0x11 ∷ 0x22 ∷ 0x33 ∷ []) 0 8 ∷ packAt (0x11 ∷ 0x22 ∷ 0x33 ∷ []) 1 8 ∷ packAt (0x11 ∷ 0x22 ∷ 0x33 ∷ []) 0 2 ∷ byteAt (0 ∷ 0x332211 ∷ 0x44 ∷ []) 1 2 ∷ byteAt (0 ∷ 0x332211 ∷ 0x44 ∷ []) 1 8 ∷ byteAt [] 1 0 ∷ [] ≡ 0x332211 ∷ 0x3322 ∷ 0x2211 ∷ 0x33 ∷ 0x44 ∷ 0 ∷ []
-  pub table-length : length (tableOf noAccountWords) ∷ length noAccountWords ∷ length noTicketWords ∷ [] ≡ 64 ∷ 384 ∷ 2049 ∷ []
+  pub row-cut : rowAt (replicate rowsStart 0 ++ (0x61 ∷ 0 ∷ 0 ∷ 1 ∷ [])) 0 ≡ editRow (editOf 0 (0x61 ∷ []) 0 0 0 0)
+  pub packed : packAt byteBits (0x11 ∷ 0x22 ∷ 0x33 ∷ []) 0 8 ∷ packAt byteBits (0x11 ∷ 0x22 ∷ 0x33 ∷ []) 1 8 ∷ packAt byteBits (0x11 ∷ 0x22 ∷ 0x33 ∷ []) 0 2 ∷ laneAt byteBits (0 ∷ 0x332211 ∷ 0x44 ∷ []) 1 2 ∷ laneAt byteBits (0 ∷ 0x332211 ∷ 0x44 ∷ []) 1 8 ∷ laneAt byteBits [] 1 0 ∷ [] ≡ 0x332211 ∷ 0x3322 ∷ 0x2211 ∷ 0x33 ∷ 0x44 ∷ 0 ∷ []
+  pub table-length : length (tableOf noAccountWords) ∷ length noAccountWords ∷ length noTicketWords ∷ [] ≡ 64 ∷ 520 ∷ 2184 ∷ []
+  pub free-kept : map (λ k. rowWord (storeRow (replicate accountsSize 9) 2 row) 2 k) (6 ∷ 7 ∷ 8 ∷ []) ≡ 9 ∷ 9 ∷ 9 ∷ []
+  pub numbers-kept : map (λ place. ticketAt (storeTicket (set (replicate ledgerSize 0xFFFFFFFFFFFFFFFF) countWord 6) d) place .number) (4 ∷ 5 ∷ 6 ∷ 7 ∷ []) ≡ 0xFFFF ∷ 0xFFFF ∷ 4 ∷ 0xFFFF ∷ []
   pub store-edit : storedBy Accepted noAccountWords (editOf 2 (0x21 ∷ 0x22 ∷ 0x23 ∷ []) 0x0F 0x3132333435363738 0x4142434445464748 0x51525354) ≡ storeRow noAccountWords 2 row
   pub store-refused : storedBy (Refused «KRB_ERR_GENERIC») (1 ∷ 2 ∷ []) (editOf 0 tech 0 0 0 0) ≡ 1 ∷ 2 ∷ []
   -- R7.2, R7.3: a fresh service; a grant is put at the end, a refusal leaves the ledger
@@ -178,15 +177,18 @@ pub record LedgerCases : Type 0 where
   pub book-requests : map requestOf (after emptyBook calls .notes) ≡ map (λ bytes. readRequest bytes .request) (request-1 nothing nothing tech ∷ request-1 nothing nothing tech ∷ [])
   pub book-table : after emptyBook calls .table ≡ set noAccounts 0 (editRow (editOf 0 tech 2 0 0 100))
   pub room-fed : map seen (replies emptyBook (edit (editOf 0 tech 0 0 0 100) ∷ request (request-1 nothing nothing tech) 5 (replicate 30 0xAA) ∷ [])) ≡ (0 ∷ []) ∷ (52 ∷ replicate 30 0xAA) ∷ []
-  -- R10.3: the tickets that granted requests returned
-  pub granted-tickets : granted turns ≡ b ∷ d ∷ []
+  -- R8.1, R10.3: the same calls of a service, from a fresh one on: the tickets that granted requests returned, the replies, and the words left
+  pub granted-tickets : granted freshService calls ≡ first ∷ second ∷ []
+  pub service-replies : map seen (repliesTo freshService calls) ≡ map seen (replies emptyBook calls)
+  pub service-tickets : ticketsOf (serviceAfter freshService calls .ledger) ≡ first ∷ second ∷ []
+  pub service-table : tableOf (serviceAfter freshService calls .accounts) ≡ set noAccounts 0 (editRow (editOf 0 tech 2 0 0 100))
   -- R9.4, R9.6, R9.7: what a hop is, and the accounts of a trail
   pub delegated : map isDelegated (Initial ∷ Direct 0 ∷ S4U2self 0 ∷ Delegated 0 0 ∷ []) ≡ false ∷ false ∷ false ∷ true ∷ []
   pub trails : map trailList (a ∷ b ∷ []) ≡ (0x15 ∷ 0x16 ∷ 0x17 ∷ []) ∷ [] ∷ []
-  pub note-of : map serviceIn (record { ticket = a; bytes = []; table = [] } ∷ []) ≡ 0x08 ∷ []
+  pub entry-service : map serviceIn (record { ticket = a; table = []; resource = false } ∷ []) ≡ 0x08 ∷ []
 
 pub ledger-cases : LedgerCases
-unfolding sameTicket hasBit numberAt bigEndian run sizeAt offsetOf fieldOf fieldBytes knownMap hopsFit readableAs originAs trailOf readTicket pairBytes headBytes trailBytes tailBytes recordAs mapFits pathOf embeddedOf wholeRequest requestFor readRequest goodBytes goodName lower agree sameName numberFrom nameTaken editChecks tgtChecks evidenceChecks userChecks lastChecks classicRoute resourceRoute isPermitted hopChecks initialWindow grantWindow hopWindow initialTicket directTicket s4u2selfTicket s4u2proxyTicket initialChecks directChecks s4u2selfChecks s4u2proxyChecks decideInitial decideDirect decideS4U2self decideS4U2proxy firstHeld dayTotal descent byteAt packAt putRow nameAt rowAt rowsFrom storeRow originIn ticketIn ticketAt heldAt ticketsFrom ticketsOf storeTicket decideRequest
+unfolding sameTicket hasBit numberAt bigEndian run offsetOf fieldOf fieldBytes knownMap hopsFit readableAs originAs trailOf readTicket recordAs mapFits pathOf embeddedOf wholeRequest requestFor readRequest goodBytes goodName lower agree sameName numberFrom nameTaken editChecks tgtChecks evidenceChecks userChecks lastChecks classicRoute resourceRoute isPermitted hopChecks initialWindow grantWindow hopWindow initialTicket directTicket s4u2selfTicket s4u2proxyTicket initialChecks directChecks s4u2selfChecks s4u2proxyChecks decideInitial decideDirect decideS4U2self decideS4U2proxy firstHeld dayTotal descent packAt putRow nameAt rowAt rowsFrom storeRow originIn ticketIn ticketAt heldAt ticketsFrom ticketsOf storeTicket decideRequest openingChecks hasRoute pastField bytesTo laneOf lanesOf setLane laneAt putLane
 ledger-cases =
     record {
       first-held = refl;
@@ -201,10 +203,13 @@ ledger-cases =
       tickets-stored = refl;
       held-places = refl;
       origins-in = refl;
+      tags-in = refl;
       marks-in = refl;
+      numbers-in = refl;
       trails-in = refl;
       counts = refl;
       count-cut = refl;
+      next-numbers = refl;
       ticket-cut = refl;
       lengths = refl;
       last-place = refl;
@@ -216,6 +221,8 @@ ledger-cases =
       row-cut = refl;
       packed = refl;
       table-length = refl;
+      free-kept = refl;
+      numbers-kept = refl;
       store-edit = refl;
       store-refused = refl;
       fresh-accounts = refl;
@@ -232,7 +239,10 @@ ledger-cases =
       book-table = refl;
       room-fed = refl;
       granted-tickets = refl;
+      service-replies = refl;
+      service-tickets = refl;
+      service-table = refl;
       delegated = refl;
       trails = refl;
-      note-of = refl;
+      entry-service = refl;
     }

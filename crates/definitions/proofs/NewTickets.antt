@@ -2,11 +2,11 @@
 -- Assumes nothing.
 use mathlib.Core.Path.{_≡_, refl, _∙_}
 use mathlib.Core.Bool.{Bool, true, false, not, _&&_}
-use mathlib.Core.List.{List, [], _∷_, _++_}
+use mathlib.Core.List.{List, _∷_, _++_, []}
 use Prim.Native.Nat.{ℕ, zero, suc, _+_, _-_, _≤_, _<_}
 use native.Mathlib.Numerals.{add-one}
 use native.Mathlib.Omega.{arith}
-use lib.ListN.{length, getD, take, drop, set, replicate, length-set}
+use lib.ListN.{length, getD, take, drop, set, length-set}
 use lib.Seq.{take-suc-set, drop-set-lt, drop-cons}
 use lib.Dec.{eqb, lit<}
 use mir.Syntax.{w8, w16, w32}
@@ -19,17 +19,18 @@ use Rattle.definitions.specs.declared.window.Window.{Window}
 use Rattle.definitions.specs.declared.ticket.Ticket.{Ticket}
 use Rattle.definitions.specs.declared.ticket.Origin.{Origin}
 use Rattle.definitions.specs.declared.ticket.Origin.the-variants.{Initial, Direct, S4U2self, Delegated}
-use Rattle.definitions.specs.declared.request.Request.{Request}
 use Rattle.definitions.proofs.Bools.{and-right, and-not, not-and}
 use Rattle.definitions.proofs.Fields.{bytes-cons, bytes-zeros}
 use Rattle.definitions.proofs.TicketRecords.{well-rest}
 use Rattle.definitions.specs.Accounts.{isBarred}
-use Rattle.definitions.specs.Options.{isForwardable, asksForwardable, flagsOf}
-use Rattle.definitions.specs.Windows.{initialWindow, grantWindow, hopWindow}
-use Rattle.definitions.specs.NewTickets.{directMark, s4u2selfForwardable, initialTicket, directTicket, s4u2selfTicket, s4u2proxyTicket}
+use Rattle.definitions.specs.Options.{isForwardable, flagsOf}
+use Rattle.definitions.specs.Windows.{initialWindow}
+use Rattle.definitions.specs.NewTickets.{directMark, s4u2selfForwardable, initialTicket, directTicket, s4u2selfTicket, s4u2proxyTicket, withoutTrail}
 use Rattle.definitions.specs.declared.account.Account.{Account}
 use Rattle.definitions.specs.declared.decision.Moment.{Moment}
-use Rattle.definitions.proofs.Windows.{MomentFits, WindowFits, grant-fits, hop-fits, initial-fits}
+use Rattle.definitions.proofs.Windows.{MomentFits, WindowFits, grant-fits, initial-fits}
+use Rattle.definitions.specs.declared.account.Named.{Named}
+use Rattle.definitions.specs.Decisions.{Presented, windowOf}
 
 -- ---- A marked ticket is never FORWARDABLE
 pub flags-forwardable : (f i : Bool) → hasBit (flagsOf f i) 30 ≡ f
@@ -43,32 +44,27 @@ flags-forwardable false false = refl
 abbrev pub MarkBars : Ticket → Type 0
 MarkBars t = t .barred ≡ true → isForwardable (t .flags) ≡ false
 
-pub initial-mark : (m : Moment) (q : Request) (u : ℕ) (x : Account) (w : Window) → MarkBars (initialTicket m q u x w)
+pub initial-mark : (n : ℕ) (f : Bool) (u : Named) (w : Window) → MarkBars (initialTicket n f u w)
 unfolding initialTicket
-initial-mark m q u x w h = flags-forwardable _ true ∙ and-not (hasBit (q .options) 30) (isBarred x) h
+initial-mark n f u w h = flags-forwardable _ true ∙ and-not f (isBarred (u .account)) h
 
-pub direct-mark : (m : Moment) (q : Request) (g : Ticket) (s : ℕ) (x : Account) (w : Window) → MarkBars (directTicket m q g s x w)
+pub direct-mark : (n : ℕ) (f : Bool) (g : Ticket) (x : Account) (s : ℕ) (w : Window) → MarkBars (directTicket n f g x s w)
 unfolding directTicket
-direct-mark m q g s x w h = flags-forwardable _ false ∙ by (hasBit (q .options) 30) (and-not (isForwardable (g .flags)) (directMark x g) h)
+direct-mark n f g x s w h = flags-forwardable _ false ∙ by f (and-not (isForwardable (g .flags)) (directMark x g) h)
   where
     by : (p : Bool) → (isForwardable (g .flags) && not (directMark x g)) ≡ false → (p && (isForwardable (g .flags) && not (directMark x g))) ≡ false
     by true e = e
     by false e = refl
 
-pub s4u2self-mark : (m : Moment) (q : Request) (g : Ticket) (u : ℕ) (x y : Account) (w : Window) → MarkBars (s4u2selfTicket m q g u x y w)
+pub s4u2self-mark : (n : ℕ) (f : Bool) (g : Ticket) (y : Account) (u : Named) (w : Window) → MarkBars (s4u2selfTicket n f g y u w)
 unfolding s4u2selfTicket
-s4u2self-mark m q g u x y w h = flags-forwardable _ false ∙ not-and (isBarred x) (s4u2selfForwardable y q g) h
-
--- a hop keeps it
-pub s4u2proxy-mark : (m : Moment) (g e : Ticket) (s : ℕ) (w : Window) → MarkBars e → MarkBars (s4u2proxyTicket m g e s w)
-unfolding s4u2proxyTicket
-s4u2proxy-mark m g e s w k h = flags-forwardable _ false ∙ k h
+s4u2self-mark n f g y u w h = flags-forwardable _ false ∙ not-and (isBarred (u .account)) (s4u2selfForwardable y f g) h
 
 -- ---- The trail is the evidence's, and Service 1
-pub trail-grows : (m : Moment) (g e : Ticket) (s : ℕ) (w : Window) → e .hops < length (e .trail)
-    → take (e .hops + 1) (s4u2proxyTicket m g e s w .trail) ≡ take (e .hops) (e .trail) ++ (g .client ∷ [])
+pub trail-grows : (n : ℕ) (g e : Ticket) (s : ℕ) (w : Window) → e .hops < length (e .trail)
+    → take (e .hops + 1) (s4u2proxyTicket n g e s w .trail) ≡ take (e .hops) (e .trail) ++ (g .client ∷ [])
 unfolding s4u2proxyTicket
-trail-grows m g e s w h = rw add-one (take-suc-set (e .trail) (e .hops) (g .client) h)
+trail-grows n g e s w h = rw add-one (take-suc-set (e .trail) (e .hops) (g .client) h)
 
 -- ---- A new ticket is one that the writer accepts, if the tickets that it rests on are
 pub flags-fit : (f i : Bool) → Fits w32 (flagsOf f i)
@@ -77,31 +73,26 @@ flags-fit true false = record { fits = lit< tt }
 flags-fit false true = record { fits = lit< tt }
 flags-fit false false = record { fits = lit< tt }
 
--- a ticket without a trail, of each origin
-abbrev no-trail : (n f c : ℕ) (w : Window) (o : Origin) (s : ℕ) (b : Bool) → Ticket
-no-trail n f c w o s b =
-    record { number = n; flags = f; client = c; service = s; window = w; origin = o; trail = replicate trailLimit 0; hops = 0; barred = b }
-
-pub initial-well : (n f c : ℕ) (w : Window) (b : Bool) → wellFormed (no-trail n f c w Initial 0 b) (mapFor Initial b) ≡ true
+pub initial-well : (n f c : ℕ) (w : Window) (b : Bool) → wellFormed (withoutTrail n f c 0 w Initial b) (mapFor Initial b) ≡ true
 unfolding wellFormed serviceFits hopsFit allZero hasBit
 initial-well n f c w true = refl
 initial-well n f c w false = refl
 
-pub direct-well : (n f c s g : ℕ) (w : Window) (b : Bool) → wellFormed (no-trail n f c w (Direct g) s b) (mapFor (Direct g) b) ≡ true
+pub direct-well : (n f c s g : ℕ) (w : Window) (b : Bool) → wellFormed (withoutTrail n f c s w (Direct g) b) (mapFor (Direct g) b) ≡ true
 unfolding wellFormed serviceFits hopsFit allZero hasBit
 direct-well n f c s g w true = refl
 direct-well n f c s g w false = refl
 
-pub s4u2self-well : (n f c s g : ℕ) (w : Window) (b : Bool) → wellFormed (no-trail n f c w (S4U2self g) s b) (mapFor (S4U2self g) b) ≡ true
+pub s4u2self-well : (n f c s g : ℕ) (w : Window) (b : Bool) → wellFormed (withoutTrail n f c s w (S4U2self g) b) (mapFor (S4U2self g) b) ≡ true
 unfolding wellFormed serviceFits hopsFit allZero hasBit
 s4u2self-well n f c s g w true = refl
 s4u2self-well n f c s g w false = refl
 
-pub no-trail-range : (m : Moment) (f c s : ℕ) (w : Window) (o : Origin) (b : Bool) → MomentFits m → WindowFits m w → Fits w32 f → Fits w8 c → Fits w8 s
-    → Fits w16 (tgtOf o) → Fits w16 (evidenceOf o) → InRange (no-trail (m .count) f c w o s b)
-no-trail-range m f c s w o b k l hf hc hs ht he =
+without-trail-range : (m : Moment) (f c s : ℕ) (w : Window) (o : Origin) (b : Bool) → MomentFits m → WindowFits (m .clock) w → Fits w32 f → Fits w8 c → Fits w8 s
+    → Fits w16 (tgtOf o) → Fits w16 (evidenceOf o) → InRange (withoutTrail (m .next) f c s w o b)
+without-trail-range m f c s w o b k l hf hc hs ht he =
     record {
-      number = record { fits = omega (arith, k .place) };
+      number = k .next;
       flags = hf;
       client = hc;
       service = hs;
@@ -123,30 +114,41 @@ zero16 = record { fits = lit< tt }
 pub number-fits8 : (n : ℕ) → n ≤ accountLimit → Fits w8 n
 number-fits8 n h = record { fits = omega arith }
 
-pub initial-writable : (m : Moment) (q : Request) (u : ℕ) (x : Account) → MomentFits m → u ≤ accountLimit → Writable (initialTicket m q u x (initialWindow m q x))
+pub initial-writable : (m : Moment) (f : Bool) (till : ℕ) (u : Named) → MomentFits m → u .number ≤ accountLimit
+    → Writable (initialTicket (m .next) f u (initialWindow (m .clock) (u .account .lifetime) till))
 unfolding initialTicket
-initial-writable m q u x k h =
+initial-writable m f till u k h =
     record {
-      in-range = no-trail-range m _ u 0 _ Initial (isBarred x) k (initial-fits m q x) (flags-fit (asksForwardable (q .options) && not (isBarred x)) true) (number-fits8 u h) zero8 zero16 zero16;
-      well-formed = initial-well (m .count) _ u _ (isBarred x);
+      in-range =
+          without-trail-range m _ (u .number) 0 _ Initial (isBarred (u .account)) k (initial-fits (m .clock) (u .account .lifetime) till)
+          (flags-fit (f && not (isBarred (u .account))) true) (number-fits8 (u .number) h) zero8 zero16 zero16;
+      well-formed = initial-well (m .next) _ (u .number) _ (isBarred (u .account));
     }
 
-pub direct-writable : (m : Moment) (q : Request) (g : Ticket) (s : ℕ) (x y : Account) → MomentFits m → s ≤ accountLimit → InRange g
-    → Writable (directTicket m q g s x (grantWindow m q y g))
+pub direct-writable : (m : Moment) (f : Bool) (till : ℕ) (g : Presented) (s : Named) → MomentFits m → s .number ≤ accountLimit → InRange (g .ticket)
+    → Writable (directTicket (m .next) f (g .ticket) (g .client) (s .number) (windowOf m (s .account) till g))
 unfolding directTicket
-direct-writable m q g s x y k h r =
+direct-writable m f till g s k h r =
+    let b = directMark (g .client) (g .ticket) in
     record {
-      in-range = no-trail-range m _ (g .client) s _ (Direct (g .number)) (directMark x g) k (grant-fits m q y g) (flags-fit (asksForwardable (q .options) && (isForwardable (g .flags) && not (directMark x g))) false) (r .client) (number-fits8 s h) (r .number) zero16;
-      well-formed = direct-well (m .count) _ (g .client) s (g .number) _ (directMark x g);
+      in-range =
+          without-trail-range m _ (g .ticket .client) (s .number) _ (Direct (g .ticket .number)) b k
+          (grant-fits (m .clock) (s .account .lifetime) till (g .ticket .window .end))
+          (flags-fit (f && (isForwardable (g .ticket .flags) && not b)) false) (r .client) (number-fits8 (s .number) h) (r .number) zero16;
+      well-formed = direct-well (m .next) _ (g .ticket .client) (s .number) (g .ticket .number) _ b;
     }
 
-pub s4u2self-writable : (m : Moment) (q : Request) (g : Ticket) (u : ℕ) (x y : Account) → MomentFits m → u ≤ accountLimit → InRange g
-    → Writable (s4u2selfTicket m q g u x y (grantWindow m q y g))
+pub s4u2self-writable : (m : Moment) (f : Bool) (till : ℕ) (g : Presented) (u : Named) → MomentFits m → u .number ≤ accountLimit → InRange (g .ticket)
+    → Writable (s4u2selfTicket (m .next) f (g .ticket) (g .client) u (windowOf m (g .client) till g))
 unfolding s4u2selfTicket
-s4u2self-writable m q g u x y k h r =
+s4u2self-writable m f till g u k h r =
+    let b = isBarred (u .account) in
     record {
-      in-range = no-trail-range m _ u (g .client) _ (S4U2self (g .number)) (isBarred x) k (grant-fits m q y g) (flags-fit (not (isBarred x) && s4u2selfForwardable y q g) false) (number-fits8 u h) (r .client) (r .number) zero16;
-      well-formed = s4u2self-well (m .count) _ u (g .client) (g .number) _ (isBarred x);
+      in-range =
+          without-trail-range m _ (u .number) (g .ticket .client) _ (S4U2self (g .ticket .number)) b k
+          (grant-fits (m .clock) (g .client .lifetime) till (g .ticket .window .end))
+          (flags-fit (not b && s4u2selfForwardable (g .client) f (g .ticket)) false) (number-fits8 (u .number) h) (r .client) (r .number) zero16;
+      well-formed = s4u2self-well (m .next) _ (u .number) (g .ticket .client) (g .ticket .number) _ b;
     }
 
 pub bytes-set : (xs : List ℕ) (i x : ℕ) → Bytes xs → Fits w8 x → Bytes (set xs i x)
@@ -166,19 +168,19 @@ unfolding wellFormed serviceFits hopsFit hasBit
 delegated-well t g e true h l z = rw (le-leb 1 (t .hops) l, le-leb (t .hops) trailLimit h, z)
 delegated-well t g e false h l z = rw (le-leb 1 (t .hops) l, le-leb (t .hops) trailLimit h, z)
 
-pub s4u2proxy-writable : (m : Moment) (q : Request) (g e : Ticket) (s : ℕ) (y : Account) → MomentFits m → s ≤ accountLimit → InRange g → Writable e → e .hops < trailLimit
-    → Writable (s4u2proxyTicket m g e s (hopWindow m q y g e))
+pub s4u2proxy-writable : (m : Moment) (g e : Ticket) (s : ℕ) (w : Window) → MomentFits m → WindowFits (m .clock) w → s ≤ accountLimit → InRange g → Writable e
+    → e .hops < trailLimit → Writable (s4u2proxyTicket (m .next) g e s w)
 unfolding s4u2proxyTicket
-s4u2proxy-writable m q g e s y k h r v few =
+s4u2proxy-writable m g e s w k l h r v few =
     record {
       in-range =
           record {
-            number = record { fits = omega (arith, k .place) };
+            number = k .next;
             flags = flags-fit (isForwardable (e .flags)) false;
             client = v .in-range .client;
             service = number-fits8 s h;
-            start = rw (hop-fits m q y g e .start) (k .clock);
-            end = record { fits = hop-fits m q y g e .end };
+            start = rw (l .start) (k .clock);
+            end = record { fits = l .end };
             tgt = r .number;
             evidence = v .in-range .number;
             places = length-set (e .trail) (e .hops) (g .client) ∙ v .in-range .places;
@@ -186,6 +188,6 @@ s4u2proxy-writable m q g e s y k h r v few =
             hops = record { fits = omega arith };
           };
       well-formed =
-          delegated-well (s4u2proxyTicket m g e s (hopWindow m q y g e)) (g .number) (e .number) (e .barred) (omega arith) (omega arith)
+          delegated-well (s4u2proxyTicket (m .next) g e s w) (g .number) (e .number) (e .barred) (omega arith) (omega arith)
           (zero-after (e .trail) (e .hops) (g .client) (omega (arith, v .in-range .places)) (well-rest e (mapOfTicket e) (v .well-formed)));
     }

@@ -9,15 +9,15 @@ use Prim.Native.Nat.{ℕ, zero, suc, _-_}
 use lib.ListN.{getD, length, replicate}
 use Rattle.definitions.specs.Errors.{answerNumber}
 use Rattle.definitions.specs.Equality.{sameTicket}
-use Rattle.definitions.specs.Fields.{hasBit, numberAt, bigEndian, run, sizeAt, offsetOf, fieldOf, fieldBytes}
-use Rattle.definitions.specs.TicketRecords.{knownMap, hopsFit, readableAs, originAs, trailOf, readTicket, pairBytes, headBytes, trailBytes, tailBytes, recordAs, allZero, serviceFits, wellFormed}
+use Rattle.definitions.specs.Fields.{hasBit, numberAt, bigEndian, run, pastField, offsetOf, fieldOf, fieldBytes, bytesTo}
+use Rattle.definitions.specs.TicketRecords.{knownMap, hopsFit, readableAs, originAs, trailOf, readTicket, recordAs, allZero, serviceFits, wellFormed}
 use Rattle.definitions.specs.Output.{writtenOf}
 use Rattle.definitions.specs.Requests.{mapFits, pathOf, embeddedOf, wholeRequest, requestFor, readRequest}
 use Rattle.definitions.specs.Accounts.{Table}
 use Rattle.definitions.specs.Names.{goodBytes, goodName, lower, agree, sameName, numberFrom, nameTaken}
 use Rattle.definitions.specs.Edits.{editOf, editChecks, editAnswer}
-use Rattle.definitions.specs.Decisions.{tgtChecks, evidenceChecks, userChecks, lastChecks, hopChecks, initialChecks, directChecks, s4u2selfChecks, s4u2proxyChecks, decideInitial, decideDirect, decideS4U2self, decideS4U2proxy}
-use Rattle.definitions.specs.Routes.{classicRoute, resourceRoute, isPermitted}
+use Rattle.definitions.specs.Decisions.{tgtChecks, evidenceChecks, userChecks, lastChecks, hopChecks, initialChecks, directChecks, s4u2selfChecks, s4u2proxyChecks, decideInitial, decideDirect, decideS4U2self, decideS4U2proxy, openingChecks}
+use Rattle.definitions.specs.Routes.{classicRoute, resourceRoute, isPermitted, hasRoute}
 use Rattle.definitions.specs.Windows.{initialWindow, grantWindow, hopWindow}
 use Rattle.definitions.specs.NewTickets.{initialTicket, directTicket, s4u2selfTicket, s4u2proxyTicket}
 use Rattle.definitions.specs.HeldTickets.{firstHeld}
@@ -81,7 +81,7 @@ evidence early late other long =
 
 -- the number that a request is answered
 abbrev answered : Table → List Ticket → List ℕ → ℕ → ℕ
-answered table tickets bytes size = answerNumber (decideRequest table tickets bytes 1020 size .answer)
+answered table tickets bytes size = answerNumber (decideRequest table tickets (length tickets) bytes 1020 size .answer)
 
 -- the options of a hop
 abbrev cname : List ℕ
@@ -155,7 +155,7 @@ pub record Order : Type 0 where
   pub write-0 : writtenOf (ticket 0 0 1 0 0 0 Initial [] false) 31 ≡ Length 17
 
 pub order : Order
-unfolding sameTicket hasBit numberAt bigEndian run sizeAt offsetOf fieldOf fieldBytes knownMap hopsFit readableAs originAs trailOf readTicket pairBytes headBytes trailBytes tailBytes recordAs allZero serviceFits wellFormed writtenOf mapFits pathOf embeddedOf wholeRequest requestFor readRequest goodBytes goodName lower agree sameName numberFrom nameTaken editChecks tgtChecks evidenceChecks userChecks lastChecks classicRoute resourceRoute isPermitted hopChecks initialWindow grantWindow hopWindow initialTicket directTicket s4u2selfTicket s4u2proxyTicket initialChecks directChecks s4u2selfChecks s4u2proxyChecks decideInitial decideDirect decideS4U2self decideS4U2proxy firstHeld decideRequest
+unfolding sameTicket hasBit numberAt bigEndian run offsetOf fieldOf fieldBytes knownMap hopsFit readableAs originAs trailOf readTicket recordAs allZero serviceFits wellFormed writtenOf mapFits pathOf embeddedOf wholeRequest requestFor readRequest goodBytes goodName lower agree sameName numberFrom nameTaken editChecks tgtChecks evidenceChecks userChecks lastChecks classicRoute resourceRoute isPermitted hopChecks initialWindow grantWindow hopWindow initialTicket directTicket s4u2selfTicket s4u2proxyTicket initialChecks directChecks s4u2selfChecks s4u2proxyChecks decideInitial decideDirect decideS4U2self decideS4U2proxy firstHeld decideRequest openingChecks hasRoute pastField bytesTo
 order =
     record {
       alone-1 = refl;

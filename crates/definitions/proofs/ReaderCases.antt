@@ -7,8 +7,8 @@ use Prim.Native.Nat.{ℕ, _+_}
 use lib.ListN.{length, replicate}
 use Rattle.definitions.specs.Errors.{errorNumber, answerNumber, isAccepted}
 use Rattle.definitions.specs.Checks.{andThen}
-use Rattle.definitions.specs.Fields.{hasBit, numberAt, bigEndian, run, sizeAt, offsetOf, fieldOf, fieldBytes}
-use Rattle.definitions.specs.TicketRecords.{knownMap, hopsFit, readableAs, originAs, trailOf, accepted, refused, readTicket, allZero, serviceFits, wellFormed, pairBytes, headBytes, trailBytes, tailBytes, recordAs, recordOf, blankTicket}
+use Rattle.definitions.specs.Fields.{hasBit, numberAt, bigEndian, run, pastField, offsetOf, fieldOf, fieldBytes, bytesTo}
+use Rattle.definitions.specs.TicketRecords.{knownMap, hopsFit, readableAs, originAs, trailOf, accepted, refused, readTicket, allZero, serviceFits, wellFormed, recordAs, recordOf, blankTicket}
 use Rattle.definitions.specs.Output.{writtenOf, outputOf}
 use Rattle.definitions.specs.Requests.{mapFits, pathOf, partOf, embeddedOf, wholeRequest, nowhere, refusedRequest, requestFor, readRequest}
 use Rattle.definitions.specs.declared.error.Error.{Error}
@@ -193,7 +193,7 @@ pub record ReaderCases : Type 0 where
   pub refused-blank : refusedRequest .request ≡ reads kind.Initial 0 0 0 blankTicket blankTicket (lies 0 0) (lies 0 0) .request
 
 pub reader-cases : ReaderCases
-unfolding hasBit numberAt bigEndian run sizeAt offsetOf fieldOf fieldBytes knownMap hopsFit readableAs originAs trailOf readTicket allZero serviceFits wellFormed pairBytes headBytes trailBytes tailBytes recordAs writtenOf outputOf mapFits pathOf embeddedOf wholeRequest requestFor readRequest
+unfolding hasBit numberAt bigEndian run pastField offsetOf fieldOf fieldBytes bytesTo knownMap hopsFit readableAs originAs trailOf readTicket allZero serviceFits wellFormed recordAs writtenOf outputOf mapFits pathOf embeddedOf wholeRequest requestFor readRequest
 reader-cases =
     record {
       error-numbers = refl;

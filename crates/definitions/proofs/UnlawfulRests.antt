@@ -1,23 +1,24 @@
--- What lawful descent rules out of what a ticket rests on, and of hops (R9.3, R9.5, R9.7): small lists of notes, one with nothing wrong, and
--- others with one thing wrong, over which nothing is lawful.
+-- What lawful descent rules out of what a ticket rests on, and of hops (R9.3, R9.5, R9.7): small lists of entries and notes, one with
+-- nothing wrong, and others with one thing wrong, over which nothing is lawful.
 -- Assumes nothing.
-use mathlib.Core.Path.{_≡_, refl, sym, ap, _∙_}
+use mathlib.Core.Path.{_≡_, refl, sym, ap, ap₂, _∙_}
 use mathlib.Core.Bool.{Bool, true, false, false≢true}
 use mathlib.Core.List.{List, [], _∷_, map}
 use mathlib.Core.Option.{Option, some, none}
 use Prim.Native.Nat.{ℕ}
 use native.Mathlib.Omega.{arith}
 use lib.ListN.{replicate}
-use Rattle.definitions.specs.Fields.{hasBit, numberAt, bigEndian, run, sizeAt, offsetOf, fieldOf, fieldBytes}
-use Rattle.definitions.specs.TicketRecords.{blankTicket, knownMap, hopsFit, readableAs, originAs, trailOf, readTicket, pairBytes, headBytes, trailBytes, tailBytes, recordAs}
+use Rattle.definitions.specs.Fields.{hasBit, numberAt, bigEndian, run, offsetOf, fieldOf, fieldBytes, pastField, bytesTo}
+use Rattle.definitions.specs.TicketRecords.{blankTicket, knownMap, hopsFit, readableAs, originAs, trailOf, readTicket, recordAs}
 use Rattle.definitions.specs.Requests.{mapFits, pathOf, embeddedOf, wholeRequest, requestFor, readRequest}
-use Rattle.definitions.specs.Accounts.{noRow, Table}
+use Rattle.definitions.specs.Accounts.{noRow, Table, accountAt}
 use Rattle.definitions.specs.Names.{lower, agree, sameName, numberFrom}
 use Rattle.definitions.specs.Edits.{editOf, editRow}
-use Rattle.definitions.specs.Routes.{classicRoute, resourceRoute, isPermitted}
+use Rattle.definitions.specs.Routes.{classicRoute, resourceRoute, hasRoute}
 use Rattle.definitions.specs.Decisions.{isInitial}
 use Rattle.definitions.specs.Book.{Note}
-use Rattle.definitions.specs.LawfulDescent.{RestsOnTgt, Permitted, RestsOnEvidence, Rests}
+use Rattle.definitions.specs.LawfulDescent.{Entry, RestsOnTgt, RestsOnEvidence, Rests}
+use Rattle.definitions.specs.Demand.{Asked}
 use Rattle.definitions.specs.declared.ticket.Origin.{Origin}
 use Rattle.definitions.specs.declared.ticket.Origin.the-variants.{Initial, Direct, S4U2self, Delegated}
 use Rattle.definitions.specs.declared.ticket.Ticket.{Ticket}
@@ -26,14 +27,14 @@ use Rattle.definitions.specs.declared.request.Kind.the-variants as kind
 use Rattle.definitions.proofs.DecisionCases.{tech, web, store}
 use Rattle.definitions.proofs.CaseValues.{ticket, nothing, request-2, request-4}
 
--- a note of a ticket in a table; its request plays no part here
-abbrev pub noted : Table → Ticket → Note
-noted table t = record { ticket = t; bytes = []; table = table }
+-- an entry of a ticket in a table, without the resource-based option
+abbrev pub dated : Table → Ticket → Entry
+dated table t = record { ticket = t; table = table; resource = false }
 
--- the ticket of a note that is there
-abbrev pub got : Option Note → Ticket
+-- the ticket of an entry that is there
+abbrev pub got : Option Entry → Ticket
 got none = blankTicket
-got (some note) = note .ticket
+got (some entry) = entry .ticket
 
 -- ---- R9.3: a self ticket of account 0 to account 1 that ends at 90, on TGT 4
 abbrev pub self : ℕ → Ticket
@@ -45,11 +46,11 @@ tgt client end origin = ticket 4 0 client 0 10 end origin [] false
 
 -- the self ticket of a number rests on such a TGT
 abbrev OnTgt : ℕ → List Ticket → Type 0
-OnTgt number tickets = RestsOnTgt (map (noted []) tickets) (noted [] (self number)) 4 1
+OnTgt number tickets = RestsOnTgt (map (dated []) tickets) (dated [] (self number)) 4 1
 
 -- with nothing wrong
 pub on-tgt : OnTgt 5 (tgt 1 90 Initial ∷ [])
-on-tgt = record { tgt = noted [] (tgt 1 90 Initial); stands = refl; falls = omega arith; is-initial = refl; its-client = refl; end = omega arith }
+on-tgt = record { tgt = dated [] (tgt 1 90 Initial); stands = refl; falls = omega arith; is-initial = refl; its-client = refl; end = omega arith }
 
 pub no-tgt : OnTgt 5 [] → ⊥
 no-tgt r = let z : _≡_ {A = ℕ} 0 1 = cc in omega arith
@@ -67,56 +68,61 @@ pub tgt-not-initial : OnTgt 5 (tgt 1 90 (Direct 0) ∷ []) → ⊥
 tgt-not-initial r = false≢true (ap (λ o. isInitial (got o .origin)) (r .stands) ∙ ap isInitial (r .is-initial))
 
 -- ---- R9.3, R9.5, R9.7: a delegated ticket of account 0 to account 2, `store`, that ends at 80, on TGT 4 and evidence 5
--- the table of its moment: account 0 sends to `store`, and account 1 has this send set
-abbrev senders : ℕ → Table
-senders send =
-    editRow (editOf 0 tech 8 4 0 100) ∷ editRow (editOf 1 web 8 send 0 100) ∷ editRow (editOf 2 store 8 0 0 100) ∷ replicate 61 noRow
+-- the table of its moment: account 0 sends to `store`, account 1 has this send set, and `store` this receive set
+abbrev senders : ℕ → ℕ → Table
+senders send receive =
+    editRow (editOf 0 tech 8 4 0 100) ∷ editRow (editOf 1 web 8 send 0 100) ∷ editRow (editOf 2 store 8 0 receive 100) ∷ replicate 61 noRow
 
 -- the evidence, with a client, a service, an end and an origin
 abbrev evidence : ℕ → ℕ → ℕ → Origin → Ticket
 evidence client service end origin = ticket 5 0x40000000 client service 10 end origin [] false
 
--- the option of a hop
-abbrev cname : List ℕ
-cname = 0x00 ∷ 0x02 ∷ 0x00 ∷ 0x00 ∷ []
+-- the delegated ticket, with its number
+abbrev hop : ℕ → Ticket
+hop number = ticket number 0 0 2 10 80 (Delegated 4 5) (1 ∷ []) false
 
--- a request of kind 4 to `store` with options, a TGT and evidence
-abbrev asks : List ℕ → Ticket → Ticket → List ℕ
-asks options t e = request-4 options nothing nothing t e store
+-- it rests on such a TGT and evidence, by such a table and resource-based option
+abbrev Hops : ℕ → Ticket → Ticket → Table → Bool → Type 0
+Hops number t e table resource =
+    RestsOnEvidence (map (dated []) (t ∷ e ∷ [])) (record { ticket = hop number; table = table; resource = resource }) 4 5
 
--- the note of the delegated ticket, with its number and service, by such bytes, with a send set in the table
-abbrev hop : ℕ → ℕ → List ℕ → ℕ → Note
-hop number service bytes send =
-    record { ticket = ticket number 0 0 service 10 80 (Delegated 4 5) (1 ∷ []) false; bytes = bytes; table = senders send }
-
--- it rests on such a TGT and evidence, and its request presented them
+-- account 1 sends to `store`
 abbrev OnEvidence : ℕ → Ticket → Ticket → Type 0
-OnEvidence number t e = RestsOnEvidence (map (noted []) (t ∷ e ∷ [])) (hop number 2 (asks cname t e) 4) 4 5
+OnEvidence number t e = Hops number t e (senders 4 0) false
 
--- with nothing wrong
-pub on-evidence : OnEvidence 6 (tgt 1 90 Initial) (evidence 0 1 80 (S4U2self 4))
-unfolding hasBit numberAt bigEndian run sizeAt offsetOf fieldOf fieldBytes knownMap hopsFit readableAs originAs trailOf readTicket pairBytes headBytes trailBytes tailBytes recordAs mapFits pathOf embeddedOf wholeRequest requestFor readRequest lower agree sameName numberFrom classicRoute resourceRoute isPermitted
-on-evidence =
+-- on this TGT, and on a ticket to its client
+abbrev its-tgt : Ticket
+its-tgt = tgt 1 90 Initial
+
+abbrev its-evidence : Ticket
+its-evidence = evidence 0 1 80 (S4U2self 4)
+
+-- with nothing wrong, where a route holds
+abbrev routeOf : Table → Bool → Bool
+routeOf table resource = hasRoute (accountAt table 1) (accountAt table 2) resource 1 its-evidence 2
+
+hops-by : (table : Table) (resource : Bool) → routeOf table resource ≡ true → Hops 6 its-tgt its-evidence table resource
+hops-by table resource h =
     record {
-      evidence = noted [] (evidence 0 1 80 (S4U2self 4));
+      evidence = dated [] its-evidence;
       stands = refl;
       falls = omega arith;
       not-initial = refl;
       one-client = refl;
       end = omega arith;
-      tgt =
-          record {
-            tgt = noted [] (tgt 1 90 Initial);
-            stands = refl;
-            falls = omega arith;
-            is-initial = refl;
-            its-client = refl;
-            end = omega arith;
-          };
-      hop = record { of-kind-4 = refl; presented-tgt = refl; presented-evidence = refl; to-service = refl; by-route = refl };
+      tgt = record { tgt = dated [] its-tgt; stands = refl; falls = omega arith; is-initial = refl; its-client = refl; end = omega arith };
+      by-route = h;
     }
 
-pub evidence-not-below : OnEvidence 5 (tgt 1 90 Initial) (evidence 0 1 80 (S4U2self 4)) → ⊥
+pub on-evidence : OnEvidence 6 its-tgt its-evidence
+unfolding hasBit classicRoute hasRoute
+on-evidence = hops-by (senders 4 0) false refl
+
+pub on-evidence-received : Hops 6 its-tgt its-evidence (senders 0 2) true
+unfolding hasBit classicRoute resourceRoute hasRoute
+on-evidence-received = hops-by (senders 0 2) true refl
+
+pub evidence-not-below : OnEvidence 5 its-tgt its-evidence → ⊥
 evidence-not-below r =
     let e : _≡_ {A = ℕ} 5 (r .evidence .ticket .number) = ap (λ o. got o .number) (r .stands) in omega (arith, e, r .falls)
 
@@ -136,27 +142,53 @@ evidence-to-another r =
     let s : _≡_ {A = ℕ} 0 (r .evidence .ticket .service) = ap (λ o. got o .service) (r .stands) in
     let c : _≡_ {A = ℕ} 1 (r .tgt .tgt .ticket .client) = ap (λ o. got o .client) (r .tgt .stands) in omega (arith, s, c, r .tgt .its-client)
 
--- R9.3: whose the TGT is, by origin: the client's of a direct ticket, the service's of a self ticket
-pub rests-direct : Rests (noted [] (tgt 1 90 Initial) ∷ []) (noted [] (ticket 5 0 1 2 10 90 (Direct 4) [] false)) (Direct 4)
-rests-direct = record { tgt = noted [] (tgt 1 90 Initial); stands = refl; falls = omega arith; is-initial = refl; its-client = refl; end = omega arith }
+no-route : (table : Table) (resource : Bool) → routeOf table resource ≡ false → Hops 6 its-tgt its-evidence table resource → ⊥
+no-route table resource h r =
+    false≢true
+    (sym h
+    ∙ ap₂ (λ (t e : Ticket). hasRoute (accountAt table (t .client)) (accountAt table 2) resource (t .client) e 2) (ap got (r .tgt .stands)) (ap got (r .stands))
+    ∙ r .by-route)
 
-pub rests-self : Rests (noted [] (tgt 1 90 Initial) ∷ []) (noted [] (self 5)) (S4U2self 4)
+-- account 1 neither sends to `store` nor is received there
+pub hop-by-no-route : Hops 6 its-tgt its-evidence (senders 0 0) true → ⊥
+unfolding hasBit classicRoute resourceRoute hasRoute
+hop-by-no-route = no-route (senders 0 0) true refl
+
+-- it is received there, and the resource-based option did not stand
+pub hop-not-resource : Hops 6 its-tgt its-evidence (senders 0 2) false → ⊥
+unfolding hasBit classicRoute resourceRoute hasRoute
+hop-not-resource = no-route (senders 0 2) false refl
+
+-- R9.3: whose the TGT is, by origin: the client's of a direct ticket, the service's of a self ticket
+pub rests-direct : Rests (dated [] its-tgt ∷ []) (dated [] (ticket 5 0 1 2 10 90 (Direct 4) [] false)) (Direct 4)
+rests-direct = record { tgt = dated [] its-tgt; stands = refl; falls = omega arith; is-initial = refl; its-client = refl; end = omega arith }
+
+pub rests-self : Rests (dated [] its-tgt ∷ []) (dated [] (self 5)) (S4U2self 4)
 rests-self = on-tgt
 
-pub rests-delegated :
-    Rests (map (noted []) (tgt 1 90 Initial ∷ evidence 0 1 80 (S4U2self 4) ∷ [])) (hop 6 2 (asks cname (tgt 1 90 Initial) (evidence 0 1 80 (S4U2self 4))) 4) (Delegated 4 5)
+pub rests-delegated : Rests (map (dated []) (its-tgt ∷ its-evidence ∷ [])) (dated (senders 4 0) (hop 6)) (Delegated 4 5)
 rests-delegated = on-evidence
 
--- R9.7: the note permits the hop on a TGT and evidence
-abbrev Hop : List ℕ → ℕ → ℕ → Ticket → Ticket → Type 0
-Hop bytes send service = Permitted (hop 6 service bytes send)
+-- ---- R9.7: what the hop's noted request asked, where TGT 4 and evidence 5 are noted
+abbrev noted : List ℕ → Ticket → Note
+noted bytes t = record { ticket = t; bytes = bytes; table = senders 4 0 }
 
--- what the request presents
-abbrev its-tgt : Ticket
-its-tgt = tgt 1 90 Initial
+-- the option of a hop
+abbrev cname : List ℕ
+cname = 0x00 ∷ 0x02 ∷ 0x00 ∷ 0x00 ∷ []
 
-abbrev its-evidence : Ticket
-its-evidence = evidence 0 1 80 (S4U2self 4)
+-- a request of kind 4 to `store` with options, a TGT and evidence
+abbrev asks : List ℕ → Ticket → Ticket → List ℕ
+asks options t e = request-4 options nothing nothing t e store
+
+-- a delegated ticket to a service, on a TGT and evidence that are held, was given for such bytes
+abbrev Asks : List ℕ → ℕ → Ticket → Ticket → Type 0
+Asks bytes service t e = Asked (map (noted []) (t ∷ e ∷ [])) (noted bytes (ticket 6 0 0 service 10 80 (Delegated 4 5) (1 ∷ []) false)) 4 5
+
+-- with nothing wrong
+pub hop-asked : Asks (asks cname its-tgt its-evidence) 2 its-tgt its-evidence
+unfolding hasBit numberAt bigEndian run pastField bytesTo offsetOf fieldOf fieldBytes knownMap hopsFit readableAs originAs trailOf readTicket recordAs mapFits pathOf embeddedOf wholeRequest requestFor readRequest lower agree sameName numberFrom
+hop-asked = record { of-kind-4 = refl; presented-tgt = refl; presented-evidence = refl; to-service = refl; by-option = refl }
 
 abbrev isProxy : Kind → Bool
 isProxy kind.Initial = false
@@ -164,26 +196,27 @@ isProxy kind.Direct = false
 isProxy kind.S4U2self = false
 isProxy kind.S4U2proxy = true
 
-pub hop-of-kind-2 : Hop (request-2 nothing nothing its-tgt store) 4 2 its-tgt its-evidence → ⊥
-unfolding hasBit numberAt bigEndian run sizeAt offsetOf fieldOf fieldBytes knownMap hopsFit readableAs originAs trailOf readTicket pairBytes headBytes trailBytes tailBytes recordAs mapFits pathOf embeddedOf wholeRequest requestFor readRequest
+-- the ticket that is held, if there is one
+abbrev held : Option Ticket → Ticket
+held none = blankTicket
+held (some t) = t
+
+pub hop-of-kind-2 : Asks (request-2 nothing nothing its-tgt store) 2 its-tgt its-evidence → ⊥
+unfolding hasBit numberAt bigEndian run pastField bytesTo offsetOf fieldOf fieldBytes knownMap hopsFit readableAs originAs trailOf readTicket recordAs mapFits pathOf embeddedOf wholeRequest requestFor readRequest
 hop-of-kind-2 h = false≢true (ap isProxy (h .of-kind-4))
 
-pub hop-on-another-tgt : Hop (asks cname its-tgt its-evidence) 4 2 (tgt 1 91 Initial) its-evidence → ⊥
-unfolding hasBit numberAt bigEndian run sizeAt offsetOf fieldOf fieldBytes knownMap hopsFit readableAs originAs trailOf readTicket pairBytes headBytes trailBytes tailBytes recordAs mapFits pathOf embeddedOf wholeRequest requestFor readRequest
-hop-on-another-tgt h = let e : _≡_ {A = ℕ} 90 91 = ap (λ t. t .window .end) (h .presented-tgt) in omega (arith, e)
+pub hop-on-another-tgt : Asks (asks cname its-tgt its-evidence) 2 (tgt 1 91 Initial) its-evidence → ⊥
+unfolding hasBit numberAt bigEndian run pastField bytesTo offsetOf fieldOf fieldBytes knownMap hopsFit readableAs originAs trailOf readTicket recordAs mapFits pathOf embeddedOf wholeRequest requestFor readRequest
+hop-on-another-tgt h = let e : _≡_ {A = ℕ} 91 90 = ap (λ o. held o .window .end) (h .presented-tgt) in omega (arith, e)
 
-pub hop-on-other-evidence : Hop (asks cname its-tgt its-evidence) 4 2 its-tgt (evidence 0 1 81 (S4U2self 4)) → ⊥
-unfolding hasBit numberAt bigEndian run sizeAt offsetOf fieldOf fieldBytes knownMap hopsFit readableAs originAs trailOf readTicket pairBytes headBytes trailBytes tailBytes recordAs mapFits pathOf embeddedOf wholeRequest requestFor readRequest
-hop-on-other-evidence h = let e : _≡_ {A = ℕ} 80 81 = ap (λ t. t .window .end) (h .presented-evidence) in omega (arith, e)
+pub hop-on-other-evidence : Asks (asks cname its-tgt its-evidence) 2 its-tgt (evidence 0 1 81 (S4U2self 4)) → ⊥
+unfolding hasBit numberAt bigEndian run pastField bytesTo offsetOf fieldOf fieldBytes knownMap hopsFit readableAs originAs trailOf readTicket recordAs mapFits pathOf embeddedOf wholeRequest requestFor readRequest
+hop-on-other-evidence h = let e : _≡_ {A = ℕ} 81 80 = ap (λ o. held o .window .end) (h .presented-evidence) in omega (arith, e)
 
-pub hop-to-another : Hop (asks cname its-tgt its-evidence) 0xC 3 its-tgt its-evidence → ⊥
-unfolding hasBit numberAt bigEndian run sizeAt offsetOf fieldOf fieldBytes knownMap hopsFit readableAs originAs trailOf readTicket pairBytes headBytes trailBytes tailBytes recordAs mapFits pathOf embeddedOf wholeRequest requestFor readRequest lower agree sameName numberFrom
+pub hop-to-another : Asks (asks cname its-tgt its-evidence) 3 its-tgt its-evidence → ⊥
+unfolding hasBit numberAt bigEndian run pastField bytesTo offsetOf fieldOf fieldBytes knownMap hopsFit readableAs originAs trailOf readTicket recordAs mapFits pathOf embeddedOf wholeRequest requestFor readRequest lower agree sameName numberFrom
 hop-to-another h = let e : _≡_ {A = ℕ} 3 2 = h .to-service in omega (arith, e)
 
-pub hop-by-no-route : Hop (asks cname its-tgt its-evidence) 0 2 its-tgt its-evidence → ⊥
-unfolding hasBit numberAt bigEndian run sizeAt offsetOf fieldOf fieldBytes knownMap hopsFit readableAs originAs trailOf readTicket pairBytes headBytes trailBytes tailBytes recordAs mapFits pathOf embeddedOf wholeRequest requestFor readRequest classicRoute resourceRoute isPermitted
-hop-by-no-route h = false≢true (h .by-route)
-
-pub hop-without-option : Hop (asks nothing its-tgt its-evidence) 4 2 its-tgt its-evidence → ⊥
-unfolding hasBit numberAt bigEndian run sizeAt offsetOf fieldOf fieldBytes knownMap hopsFit readableAs originAs trailOf readTicket pairBytes headBytes trailBytes tailBytes recordAs mapFits pathOf embeddedOf wholeRequest requestFor readRequest classicRoute resourceRoute isPermitted
-hop-without-option h = false≢true (h .by-route)
+pub hop-without-option : Asks (asks nothing its-tgt its-evidence) 2 its-tgt its-evidence → ⊥
+unfolding hasBit numberAt bigEndian run pastField bytesTo offsetOf fieldOf fieldBytes knownMap hopsFit readableAs originAs trailOf readTicket recordAs mapFits pathOf embeddedOf wholeRequest requestFor readRequest
+hop-without-option h = false≢true (h .by-option)

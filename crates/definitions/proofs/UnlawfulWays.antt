@@ -1,8 +1,8 @@
--- What lawful descent rules out of steps back and of the way along the evidence (R9.2, R9.4 to R9.6, R9.8): small lists of notes, one with
+-- What lawful descent rules out of steps back and of the way along the evidence (R9.2, R9.4 to R9.6, R9.8): small lists of entries, one with
 -- nothing wrong, and others with one thing wrong, over which nothing is lawful.
 -- Assumes nothing.
 use mathlib.Core.Path.{_≡_, refl, sym, ap, _∙_}
-use mathlib.Core.Bool.{true, false, false≢true}
+use mathlib.Core.Bool.{false, false≢true}
 use mathlib.Core.List.{List, [], _∷_, _++_, map}
 use mathlib.Core.Option.{Option, some, none}
 use Prim.Native.Nat.{ℕ, _≤_}
@@ -13,79 +13,78 @@ use Rattle.definitions.specs.TicketRecords.{evidenceOf}
 use Rattle.definitions.specs.Accounts.{accountAt, isBarred}
 use Rattle.definitions.specs.Edits.{editOf, editRow}
 use Rattle.definitions.specs.Decisions.{isInitial}
-use Rattle.definitions.specs.Book.{Note}
-use Rattle.definitions.specs.LawfulDescent.{firstNote, serviceIn, isDelegated, Steps, at-initial, one-back, Along, itself, through, Way, WayOf}
+use Rattle.definitions.specs.LawfulDescent.{Entry, firstEntry, serviceIn, isDelegated, Steps, at-initial, one-back, Along, itself, through, Way, WayOf}
 use Rattle.definitions.specs.declared.ticket.Origin.the-variants.{Initial, Direct, Delegated}
 use Rattle.definitions.specs.declared.ticket.Ticket.{Ticket}
 use Rattle.definitions.proofs.DecisionCases.{tech}
 use Rattle.definitions.proofs.CaseValues.{ticket}
-use Rattle.definitions.proofs.UnlawfulRests.{noted, got, self, tgt}
+use Rattle.definitions.proofs.UnlawfulRests.{dated, got, self, tgt}
 
 -- ---- R9.2: steps back from a direct ticket to TGT 4
 abbrev direct : ℕ → Ticket
 direct number = ticket number 0 1 2 10 90 (Direct 4) [] false
 
 -- with nothing wrong
-pub on-steps : Steps (map (noted []) (tgt 1 90 Initial ∷ [])) (noted [] (direct 5)) 1
-on-steps = one-back {note = noted [] (direct 5)} {back = noted [] (tgt 1 90 Initial)} refl refl (omega arith) (omega arith) (at-initial refl)
+pub on-steps : Steps (map (dated []) (tgt 1 90 Initial ∷ [])) (dated [] (direct 5)) 1
+on-steps = one-back {entry = dated [] (direct 5)} {back = dated [] (tgt 1 90 Initial)} refl refl (omega arith) (omega arith) (at-initial refl)
 
 -- the number in an option
 abbrev told : Option ℕ → ℕ
 told none = 0
 told (some n) = n
 
--- the note one step back, by its ticket
-back-is : (tickets : List Ticket) (b : ℕ) (u : Note) → some 4 ≡ some b → firstNote b (map (noted []) tickets) ≡ some u
-    → got (firstNote 4 (map (noted []) tickets)) ≡ u .ticket
-back-is tickets b u o s = ap (λ n. got (firstNote n (map (noted []) tickets))) (ap told o) ∙ ap got s
+-- the entry one step back, by its ticket
+back-is : (tickets : List Ticket) (b : ℕ) (u : Entry) → some 4 ≡ some b → firstEntry b (map (dated []) tickets) ≡ some u
+    → got (firstEntry 4 (map (dated []) tickets)) ≡ u .ticket
+back-is tickets b u o s = ap (λ n. got (firstEntry n (map (dated []) tickets))) (ap told o) ∙ ap got s
 
-pub steps-not-below : (k : ℕ) → Steps (map (noted []) (tgt 1 90 Initial ∷ [])) (noted [] (direct 4)) k → ⊥
+pub steps-not-below : (k : ℕ) → Steps (map (dated []) (tgt 1 90 Initial ∷ [])) (dated [] (direct 4)) k → ⊥
 steps-not-below k (at-initial o) = false≢true (ap isInitial o)
 steps-not-below k (one-back {back = u} {n = b} o s falls end steps) =
     let e : _≡_ {A = ℕ} 4 (u .ticket .number) = ap (λ t. t .number) (back-is (tgt 1 90 Initial ∷ []) b u o s) in omega (arith, e, falls)
 
-pub steps-end-before : (k : ℕ) → Steps (map (noted []) (tgt 1 89 Initial ∷ [])) (noted [] (direct 5)) k → ⊥
+pub steps-end-before : (k : ℕ) → Steps (map (dated []) (tgt 1 89 Initial ∷ [])) (dated [] (direct 5)) k → ⊥
 steps-end-before k (at-initial o) = false≢true (ap isInitial o)
 steps-end-before k (one-back {back = u} {n = b} o s falls end steps) =
     let e : _≡_ {A = ℕ} 89 (u .ticket .window .end) = ap (λ t. t .window .end) (back-is (tgt 1 89 Initial ∷ []) b u o s) in omega (arith, e, end)
 
 -- ---- R9.4 to R9.6, R9.8: the way of a delegated ticket over self ticket 5, which was given while account 0 had these flags
-abbrev first-note : ℕ → Note
-first-note flags = noted (editRow (editOf 0 tech flags 0 0 0) ∷ []) (self 5)
+abbrev first-entry : ℕ → Entry
+first-entry flags = dated (editRow (editOf 0 tech flags 0 0 0) ∷ []) (self 5)
 
 -- the delegated ticket, with a client, an end and a trail
-abbrev hop-note : ℕ → ℕ → List ℕ → Note
-hop-note client end trail = noted [] (ticket 6 0 client 2 10 end (Delegated 4 5) trail false)
+abbrev hop-entry : ℕ → ℕ → List ℕ → Entry
+hop-entry client end trail = dated [] (ticket 6 0 client 2 10 end (Delegated 4 5) trail false)
 
 -- the self ticket is its own first, and passes nothing
-first-is : (flags : ℕ) {note first : Note} {passed : List Note} → note ≡ first-note flags → Along (first-note flags ∷ []) note passed first
-    → (passed ≡ []) × (first ≡ first-note flags)
+first-is : (flags : ℕ) {entry first : Entry} {passed : List Entry} → entry ≡ first-entry flags → Along (first-entry flags ∷ []) entry passed first
+    → (passed ≡ []) × (first ≡ first-entry flags)
 first-is flags q (itself i d) = (refl, q)
-first-is flags q (through o s e along) = absurd (false≢true (sym (ap (λ (n : Note). isDelegated (n .ticket .origin)) q) ∙ ap isDelegated o))
+first-is flags q (through o s e along) = absurd (false≢true (sym (ap (λ (n : Entry). isDelegated (n .ticket .origin)) q) ∙ ap isDelegated o))
 
 -- so the way of the delegated ticket passes the self ticket alone, and ends there, no earlier than the ticket
-passed-is : (flags client end : ℕ) (trail : List ℕ) {first : Note} {passed : List Note}
-    → Along (first-note flags ∷ []) (hop-note client end trail) passed first → (passed ≡ first-note flags ∷ []) × (first ≡ first-note flags) × (end ≤ 90)
+passed-is : (flags client end : ℕ) (trail : List ℕ) {first : Entry} {passed : List Entry}
+    → Along (first-entry flags ∷ []) (hop-entry client end trail) passed first → (passed ≡ first-entry flags ∷ []) × (first ≡ first-entry flags) × (end ≤ 90)
 passed-is flags client end trail (itself i d) = absurd (false≢true (sym d))
 passed-is flags client end trail (through {evidence = u} {passed = p} {e = e} o s l along) =
-    let found : firstNote 5 (first-note flags ∷ []) ≡ some u = ap (λ n. firstNote n (first-note flags ∷ [])) (ap evidenceOf o) ∙ s in
-    let is : first-note flags ≡ u = cc in
+    let found : firstEntry 5 (first-entry flags ∷ []) ≡ some u = ap (λ n. firstEntry n (first-entry flags ∷ [])) (ap evidenceOf o) ∙ s in
+    let is : first-entry flags ≡ u = cc in
     let rest = first-is flags (sym is) along in
-    let ends : _≡_ {A = ℕ} 90 (u .ticket .window .end) = ap (λ (n : Note). n .ticket .window .end) is in
+    let ends : _≡_ {A = ℕ} 90 (u .ticket .window .end) = ap (λ (n : Entry). n .ticket .window .end) is in
     (ap (λ x. x ++ (u ∷ [])) (rest .0) ∙ ap (λ x. x ∷ []) (sym is), rest .1, omega (arith, ends, l))
 
 -- a ticket with such a client, end and trail has a way
 abbrev HasWay : ℕ → ℕ → ℕ → List ℕ → Type 0
-HasWay flags client end trail = Way (first-note flags ∷ []) (hop-note client end trail)
+HasWay flags client end trail = Way (first-entry flags ∷ []) (hop-entry client end trail)
 
 -- with nothing wrong
 pub on-way : HasWay 0 0 80 (1 ∷ [])
 unfolding hasBit
 on-way =
     record {
-      passed = first-note 0 ∷ [];
-      first = first-note 0;
-      along = through {note = hop-note 0 80 (1 ∷ [])} {evidence = first-note 0} refl refl (omega arith) (itself refl refl);
+      passed = first-entry 0 ∷ [];
+      first = first-entry 0;
+      along = through {entry = hop-entry 0 80 (1 ∷ [])} {evidence = first-entry 0} refl refl (omega arith) (itself refl refl);
       hops = refl;
       trail = refl;
       clients = (refl, tt);
@@ -96,14 +95,14 @@ on-way =
 pub way-barred : HasWay 2 0 80 (1 ∷ []) → ⊥
 unfolding hasBit
 way-barred w =
-    false≢true (sym (w .not-barred refl) ∙ ap (λ (n : Note). isBarred (accountAt (n .table) 0)) (passed-is 2 0 80 (1 ∷ []) (w .along) .1))
+    false≢true (sym (w .not-barred refl) ∙ ap (λ (n : Entry). isBarred (accountAt (n .table) 0)) (passed-is 2 0 80 (1 ∷ []) (w .along) .1))
 
 pub way-ends-before : HasWay 0 0 91 (1 ∷ []) → ⊥
 way-ends-before w = omega (arith, passed-is 0 0 91 (1 ∷ []) (w .along) .2)
 
 pub way-of-another : HasWay 0 3 80 (1 ∷ []) → ⊥
 way-of-another w =
-    let c : _≡_ {A = ℕ} (w .first .ticket .client) 0 = ap (λ (n : Note). n .ticket .client) (passed-is 0 3 80 (1 ∷ []) (w .along) .1) in
+    let c : _≡_ {A = ℕ} (w .first .ticket .client) 0 = ap (λ (n : Entry). n .ticket .client) (passed-is 0 3 80 (1 ∷ []) (w .along) .1) in
     omega (arith, c, w .first-client)
 
 pub way-not-counted : HasWay 0 0 80 [] → ⊥
@@ -120,8 +119,8 @@ way-by-another w =
     let n : _≡_ {A = ℕ} 3 1 = ap head (w .trail ∙ ap (map serviceIn) (passed-is 0 0 80 (3 ∷ []) (w .along) .0)) in omega (arith, n)
 
 -- an initial ticket has no trail, whatever else it says
-pub way-initial : WayOf [] (noted [] (ticket 4 0x00400000 1 7 10 90 Initial [] false)) Initial
+pub way-initial : WayOf [] (dated [] (ticket 4 0x00400000 1 7 10 90 Initial [] false)) Initial
 way-initial = refl
 
-pub way-initial-trail : WayOf [] (noted [] (ticket 4 0x00400000 1 0 10 90 Initial (1 ∷ []) false)) Initial → ⊥
+pub way-initial-trail : WayOf [] (dated [] (ticket 4 0x00400000 1 0 10 90 Initial (1 ∷ []) false)) Initial → ⊥
 way-initial-trail h = let e : _≡_ {A = ℕ} 1 0 = h in omega (arith, e)

@@ -6,15 +6,11 @@ use Prim.Native.Nat.{ℕ, _+_, _-_, _≤_, _<_, _^_}
 use native.Mathlib.Nat.{min-le-left, min-le-right, le-trans}
 use native.Mathlib.Omega.{arith}
 use lib.Dec.{eqb}
-use mir.Syntax.{w32}
+use mir.Syntax.{w32, w16}
 use mir.Val.{Fits}
-use Rattle.definitions.specs.Limits.{ticketLimit}
 use Rattle.definitions.specs.Validity.{until}
 use Rattle.definitions.specs.declared.window.Window.{Window}
-use Rattle.definitions.specs.declared.ticket.Ticket.{Ticket}
-use Rattle.definitions.specs.declared.request.Request.{Request}
 use Rattle.definitions.specs.Windows.{fullWindow, wished, initialWindow, grantWindow, hopWindow}
-use Rattle.definitions.specs.declared.account.Account.{Account}
 use Rattle.definitions.specs.declared.decision.Moment.{Moment}
 
 -- ---- The end is no later than those of the tickets that it rests on
@@ -31,53 +27,51 @@ wished-within till w = by (eqb till 0)
     by true = omega arith
     by false = until-within w till
 
-pub grant-end : (m : Moment) (q : Request) (y : Account) (g : Ticket) → grantWindow m q y g .end ≤ g .window .end
+pub grant-end : (clock lifetime till end : ℕ) → grantWindow clock lifetime till end .end ≤ end
 unfolding grantWindow
-grant-end m q y g = le-trans (wished-within (q .till) _) (until-most (fullWindow (m .clock) (y .lifetime)) (g .window .end))
+grant-end clock lifetime till end = le-trans (wished-within till _) (until-most (fullWindow clock lifetime) end)
 
-pub hop-end-tgt : (m : Moment) (q : Request) (y : Account) (g e : Ticket) → hopWindow m q y g e .end ≤ g .window .end
+pub hop-end-tgt : (clock lifetime till end1 end2 : ℕ) → hopWindow clock lifetime till end1 end2 .end ≤ end1
 unfolding hopWindow
-hop-end-tgt m q y g e =
-    le-trans (wished-within (q .till) _)
-    (le-trans (until-within (until (fullWindow (m .clock) (y .lifetime)) (g .window .end)) (e .window .end))
-    (until-most (fullWindow (m .clock) (y .lifetime)) (g .window .end)))
+hop-end-tgt clock lifetime till end1 end2 =
+    le-trans (wished-within till _) (le-trans (until-within (until (fullWindow clock lifetime) end1) end2) (until-most (fullWindow clock lifetime) end1))
 
-pub hop-end-evidence : (m : Moment) (q : Request) (y : Account) (g e : Ticket) → hopWindow m q y g e .end ≤ e .window .end
+pub hop-end-evidence : (clock lifetime till end1 end2 : ℕ) → hopWindow clock lifetime till end1 end2 .end ≤ end2
 unfolding hopWindow
-hop-end-evidence m q y g e =
-    le-trans (wished-within (q .till) _) (until-most (until (fullWindow (m .clock) (y .lifetime)) (g .window .end)) (e .window .end))
+hop-end-evidence clock lifetime till end1 end2 = le-trans (wished-within till _) (until-most (until (fullWindow clock lifetime) end1) end2)
 
 -- the window starts now and fits 32 bits
-pub record WindowFits (m : Moment) (w : Window) : Type 0 where
-  pub start : w .start ≡ m .clock
+pub record WindowFits (clock : ℕ) (w : Window) : Type 0 where
+  pub start : w .start ≡ clock
   pub end : w .end < 2 ^ 32
 
-pub full-fits : (m : Moment) (lifetime : ℕ) → WindowFits m (fullWindow (m .clock) lifetime)
-full-fits m lifetime = record { start = refl; end = omega (arith, min-le-right (m .clock + lifetime) 4294967295) }
+full-fits : (clock lifetime : ℕ) → WindowFits clock (fullWindow clock lifetime)
+full-fits clock lifetime = record { start = refl; end = omega (arith, min-le-right (clock + lifetime) 4294967295) }
 
-pub until-fits : (m : Moment) (w : Window) (e : ℕ) → WindowFits m w → WindowFits m (until w e)
-until-fits m w e f = record { start = f .start; end = omega (arith, until-within w e, f .end) }
+until-fits : (clock : ℕ) (w : Window) (e : ℕ) → WindowFits clock w → WindowFits clock (until w e)
+until-fits clock w e f = record { start = f .start; end = omega (arith, until-within w e, f .end) }
 
-pub wished-fits : (m : Moment) (till : ℕ) (w : Window) → WindowFits m w → WindowFits m (wished till w)
-wished-fits m till w f = by (eqb till 0)
+wished-fits : (clock till : ℕ) (w : Window) → WindowFits clock w → WindowFits clock (wished till w)
+wished-fits clock till w f = by (eqb till 0)
   where
-    by : (p : Bool) → WindowFits m (cond p w (until w till))
+    by : (p : Bool) → WindowFits clock (cond p w (until w till))
     by true = f
-    by false = until-fits m w till f
+    by false = until-fits clock w till f
 
-pub initial-fits : (m : Moment) (q : Request) (x : Account) → WindowFits m (initialWindow m q x)
+pub initial-fits : (clock lifetime till : ℕ) → WindowFits clock (initialWindow clock lifetime till)
 unfolding initialWindow
-initial-fits m q x = wished-fits m (q .till) _ (full-fits m (x .lifetime))
+initial-fits clock lifetime till = wished-fits clock till _ (full-fits clock lifetime)
 
-pub grant-fits : (m : Moment) (q : Request) (y : Account) (g : Ticket) → WindowFits m (grantWindow m q y g)
+pub grant-fits : (clock lifetime till end : ℕ) → WindowFits clock (grantWindow clock lifetime till end)
 unfolding grantWindow
-grant-fits m q y g = wished-fits m (q .till) _ (until-fits m _ (g .window .end) (full-fits m (y .lifetime)))
+grant-fits clock lifetime till end = wished-fits clock till _ (until-fits clock _ end (full-fits clock lifetime))
 
-pub hop-fits : (m : Moment) (q : Request) (y : Account) (g e : Ticket) → WindowFits m (hopWindow m q y g e)
+pub hop-fits : (clock lifetime till end1 end2 : ℕ) → WindowFits clock (hopWindow clock lifetime till end1 end2)
 unfolding hopWindow
-hop-fits m q y g e = wished-fits m (q .till) _ (until-fits m _ (e .window .end) (until-fits m _ (g .window .end) (full-fits m (y .lifetime))))
+hop-fits clock lifetime till end1 end2 =
+    wished-fits clock till _ (until-fits clock _ end2 (until-fits clock _ end1 (full-fits clock lifetime)))
 
--- what a call brings fits its machine types, and a place is free
+-- what a call brings fits its machine types
 pub record MomentFits (m : Moment) : Type 0 where
   pub clock : Fits w32 (m .clock)
-  pub place : m .count < ticketLimit
+  pub next : Fits w16 (m .next)

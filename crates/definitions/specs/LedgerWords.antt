@@ -1,57 +1,68 @@
--- The ledger in the words that the caller lends: the stored count, and four words for each place (R7.1).
--- Any words are some ledger: a stored count above the places counts as all of them.
+-- The ledger in the words that the caller lends: a header with the stored count, the tickets' numbers in lanes of 16 bits, and four words for
+-- each place (R7.1). Any words are some ledger: a stored count above the places counts as all of them.
 -- Assumes nothing.
 use Prim.Native.Nat.{ℕ, zero, suc, _+_, _*_, _/_, _%_, min}
 use mathlib.Core.Bool.{Bool, true, false, cond}
 use mathlib.Core.List.{List, [], _∷_}
 use lib.ListN.{getD, set, replicate}
 use lib.Dec.{ltb, eqb}
-use Rattle.definitions.specs.Limits.{ticketLimit, two8, two16, two24, two32, two48, placeSize, ledgerSize}
+use Rattle.definitions.specs.Limits.{ticketLimit, trailLimit, byteBits, numberBits, two4, two8, two16, two32, two40, two48, two56, two60, countWord, numbersStart, placesStart, placeSize, windowWord, backWord, trailWord, ledgerSize}
 use Rattle.definitions.specs.TicketRecords.{tgtOf, evidenceOf}
 use Rattle.definitions.specs.HeldTickets.{heldTicket, notHeld}
-use Rattle.definitions.specs.Words.{packAt, putRow}
+use Rattle.definitions.specs.Words.{lanesOf, packAt, laneAt, putLane, putRow}
 use Rattle.definitions.specs.declared.ticket.Origin.{Origin}
 use Rattle.definitions.specs.declared.ticket.Origin.the-variants.{Initial, Direct, S4U2self, Delegated}
+use Rattle.definitions.specs.declared.window.Window.{Window}
 use Rattle.definitions.specs.declared.ticket.Ticket.{Ticket}
 use Rattle.definitions.specs.declared.decision.Held.{Held}
 
--- the origin in a place's third word: a tag in its lowest byte, the TGT's number from bit 32 on, the evidence's from bit 48 on
-unfoldable pub originIn : ℕ → Origin
-originIn third =
-    cond (eqb (third % two8) 0) Initial
-    (cond (eqb (third % two8) 1) (Direct (third / two32 % two16))
-    (cond (eqb (third % two8) 2) (S4U2self (third / two32 % two16)) (Delegated (third / two32 % two16) (third / two48 % two16))))
+-- the word at which a place starts
+abbrev pub placeStart : ℕ → ℕ
+placeStart place = placesStart + placeSize * place
 
--- the eight bytes of a place's fourth word, the lowest first
-abbrev pub trailIn : ℕ → List ℕ
-trailIn fourth =
-    fourth % 256 ∷ fourth / 256 % 256 ∷ fourth / 65536 % 256 ∷ fourth / 16777216 % 256 ∷ fourth / 4294967296 % 256
-    ∷ fourth / 1099511627776 % 256 ∷ fourth / 281474976710656 % 256 ∷ fourth / 72057594037927936 % 256 ∷ []
+-- word k of a place
+abbrev pub placeWord : List ℕ → ℕ → ℕ → ℕ
+placeWord words place k = getD words (placeStart place + k) 0
 
--- the ticket of a place's four words
-unfoldable pub ticketIn : ℕ → ℕ → ℕ → ℕ → Ticket
-ticketIn first second third fourth =
+-- the origin of a tag: 0, 1, 2, and any other is that of a delegated ticket
+unfoldable pub originIn : ℕ → ℕ → ℕ → Origin
+originIn tag tgt evidence =
+    cond (eqb tag 0) Initial (cond (eqb tag 1) (Direct tgt) (cond (eqb tag 2) (S4U2self tgt) (Delegated tgt evidence)))
+
+-- start and end in a place's second word
+abbrev pub windowIn : ℕ → Window
+windowIn second = record { start = second % two32; end = second / two32 % two32 }
+
+-- the ticket of a number and a place's four words. The first has flags, client, service and hops, from bit 56 on the origin's tag, and from
+-- bit 60 on 1 where the ticket has the barred mark; the third has from bit 32 on the TGT's number, from bit 48 on the evidence's; the fourth has
+-- the trail
+unfoldable pub ticketIn : ℕ → ℕ → ℕ → ℕ → ℕ → Ticket
+ticketIn number first second third fourth =
     record {
-      number = first % two16;
-      flags = first / two32 % two32;
-      client = first / two16 % two8;
-      service = first / two24 % two8;
-      window = record { start = second % two32; end = second / two32 % two32 };
-      origin = originIn third;
-      trail = trailIn fourth;
-      hops = third / two16 % two8;
-      barred = eqb (third / two8 % two8) 1;
+      number = number;
+      flags = first % two32;
+      client = first / two32 % two8;
+      service = first / two40 % two8;
+      window = windowIn second;
+      origin = originIn (first / two56 % two4) (third / two32 % two16) (third / two48 % two16);
+      trail = lanesOf byteBits fourth trailLimit;
+      hops = first / two48 % two8;
+      barred = eqb (first / two60 % two4) 1;
     }
 
 -- the ticket at a place
 unfoldable pub ticketAt : List ℕ → ℕ → Ticket
 ticketAt words place =
-    ticketIn (getD words (placeSize * place + 1) 0) (getD words (placeSize * place + 2) 0) (getD words (placeSize * place + 3) 0)
-    (getD words (placeSize * place + 4) 0)
+    ticketIn (laneAt numberBits words numbersStart place) (placeWord words place 0) (placeWord words place windowWord)
+    (placeWord words place backWord) (placeWord words place trailWord)
 
 -- R7.1: how many tickets the words hold
 abbrev pub countHeld : List ℕ → ℕ
-countHeld words = min (getD words 0 0) ticketLimit
+countHeld words = min (getD words countWord 0) ticketLimit
+
+-- R5.10: the number of the next ticket
+abbrev pub nextNumber : List ℕ → ℕ
+nextNumber words = countHeld words
 
 -- the ticket at a place of those held, nothing past them
 unfoldable pub heldAt : List ℕ → ℕ → Held
@@ -73,22 +84,25 @@ tagOf (Direct tgt) = 1
 tagOf (S4U2self tgt) = 2
 tagOf (Delegated tgt evidence) = 3
 
--- the barred mark in a place's third word: the byte above the tag is 1
+-- the barred mark, as it is stored
 abbrev pub markOf : Bool → ℕ
-markOf true = two8
+markOf true = 1
 markOf false = 0
 
 -- the four words of a ticket
 abbrev pub ticketWords : Ticket → List ℕ
 ticketWords ticket =
-    (ticket .number + two16 * ticket .client + two24 * ticket .service + two32 * ticket .flags)
-    ∷ (ticket .window .start + two32 * ticket .window .end)
-    ∷ (tagOf (ticket .origin) + markOf (ticket .barred) + two16 * ticket .hops + two32 * tgtOf (ticket .origin) + two48 * evidenceOf (ticket .origin))
-    ∷ packAt (ticket .trail) 0 8 ∷ []
+    (ticket .flags + two32 * ticket .client + two40 * ticket .service + two48 * ticket .hops + two56 * tagOf (ticket .origin) + two60 * markOf (ticket .barred))
+    ∷ (ticket .window .start + two32 * ticket .window .end) ∷ (two32 * tgtOf (ticket .origin) + two48 * evidenceOf (ticket .origin))
+    ∷ packAt byteBits (ticket .trail) 0 trailLimit ∷ []
+
+-- the words after a ticket is put at a place: the lane of its number, and the four words of the place
+abbrev pub putTicket : List ℕ → ℕ → Ticket → List ℕ
+putTicket words place ticket = putRow (putLane numberBits words numbersStart place (ticket .number)) (placeStart place) (ticketWords ticket)
 
 -- R7.3: the words after a ticket is put at the end of the ledger
 unfoldable pub storeTicket : List ℕ → Ticket → List ℕ
-storeTicket words ticket = set (putRow words (placeSize * countHeld words + 1) (ticketWords ticket)) 0 (countHeld words + 1)
+storeTicket words ticket = set (putTicket words (countHeld words) ticket) countWord (countHeld words + 1)
 
 -- R7.2: the words of a ledger without tickets
 abbrev pub noTicketWords : List ℕ

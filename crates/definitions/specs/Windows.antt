@@ -6,10 +6,6 @@ use lib.Dec.{eqb}
 use Rattle.definitions.specs.Limits.{lastSecond}
 use Rattle.definitions.specs.Validity.{until}
 use Rattle.definitions.specs.declared.window.Window.{Window}
-use Rattle.definitions.specs.declared.ticket.Ticket.{Ticket}
-use Rattle.definitions.specs.declared.request.Request.{Request}
-use Rattle.definitions.specs.declared.account.Account.{Account}
-use Rattle.definitions.specs.declared.decision.Moment.{Moment}
 
 -- R5.9: from now on for a lifetime, at most to the last second
 abbrev pub fullWindow : ℕ → ℕ → Window
@@ -20,15 +16,13 @@ abbrev pub wished : ℕ → Window → Window
 wished till window = cond (eqb till 0) window (until window till)
 
 -- R5.9: the window of an initial ticket, by the client's lifetime
-unfoldable pub initialWindow : Moment → Request → Account → Window
-initialWindow moment request client = wished (request .till) (fullWindow (moment .clock) (client .lifetime))
+unfoldable pub initialWindow : ℕ → ℕ → ℕ → Window
+initialWindow clock lifetime till = wished till (fullWindow clock lifetime)
 
--- R5.9: the window of a ticket that rests on a TGT, by the service's lifetime
-unfoldable pub grantWindow : Moment → Request → Account → Ticket → Window
-grantWindow moment request service tgt =
-    wished (request .till) (until (fullWindow (moment .clock) (service .lifetime)) (tgt .window .end))
+-- R5.9: the window of a ticket that rests on a TGT with this end, by the service's lifetime
+unfoldable pub grantWindow : ℕ → ℕ → ℕ → ℕ → Window
+grantWindow clock lifetime till tgt-end = wished till (until (fullWindow clock lifetime) tgt-end)
 
--- R5.9: the window of a ticket that rests on a TGT and on evidence, by the service's lifetime
-unfoldable pub hopWindow : Moment → Request → Account → Ticket → Ticket → Window
-hopWindow moment request service tgt evidence =
-    wished (request .till) (until (until (fullWindow (moment .clock) (service .lifetime)) (tgt .window .end)) (evidence .window .end))
+-- R5.9: the window of a ticket that rests on a TGT and on evidence with these ends, by the service's lifetime
+unfoldable pub hopWindow : ℕ → ℕ → ℕ → ℕ → ℕ → Window
+hopWindow clock lifetime till tgt-end evidence-end = wished till (until (until (fullWindow clock lifetime) tgt-end) evidence-end)

@@ -24,23 +24,55 @@ pub const TICKET_LIMIT: usize = 512;
 // The last second that a clock reading or an end can name (R1.2).
 pub const LAST_SECOND: u32 = 4294967295;
 
-// What a byte, 16, 24, 32 and 48 bits count to.
+// What 4, 8, 16, 32, 40, 48, 56 and 60 bits count to.
+pub const TWO_4: u64 = 16;
+
 pub const TWO_8: u64 = 256;
 
 pub const TWO_16: u64 = 65536;
 
-pub const TWO_24: u64 = 16777216;
-
 pub const TWO_32: u64 = 4294967296;
+
+pub const TWO_40: u64 = 1099511627776;
 
 pub const TWO_48: u64 = 281474976710656;
 
-// The words of an account's row, and of all rows.
-pub const ROW_SIZE: usize = 6;
+pub const TWO_56: u64 = 72057594037927936;
 
-pub const ACCOUNTS_SIZE: usize = 384;
+pub const TWO_60: u64 = 1152921504606846976;
 
-// The words of a ticket's place, and of the count and all places.
+// The accounts' words: where the rows start, the words of a row, those of them that hold length, flags and lifetime, the send set and the
+// receive set, and all words.
+pub const ROWS_START: usize = 8;
+
+pub const ROW_SIZE: usize = 8;
+
+pub const DETAIL_WORD: usize = 3;
+
+pub const SEND_WORD: usize = 4;
+
+pub const RECEIVE_WORD: usize = 5;
+
+pub const ACCOUNTS_SIZE: usize = 520;
+
+// The ledger's words: that of the stored count, where the numbers start, the bits of a number, how many stand in a word, where the places
+// start, the words of a place, those of them that hold start and end, the back numbers and the trail, and all words.
+pub const COUNT_WORD: usize = 0;
+
+pub const NUMBERS_START: usize = 8;
+
+pub const NUMBER_BITS: usize = 16;
+
+pub const NUMBERS_IN_WORD: usize = 4;
+
+pub const PLACES_START: usize = 136;
+
 pub const PLACE_SIZE: usize = 4;
 
-pub const LEDGER_SIZE: usize = 2049;
+pub const WINDOW_WORD: usize = 1;
+
+pub const BACK_WORD: usize = 2;
+
+pub const TRAIL_WORD: usize = 3;
+
+pub const LEDGER_SIZE: usize = 2184;

@@ -1,98 +1,186 @@
 -- Laws of the look-up: many places at a time, and what a kind presents.
 -- Assumes nothing.
-use mathlib.Core.Path.{_≡_, refl, sym, _∙_}
-use mathlib.Core.Bool.{true, false, _||_, false≢true}
+use mathlib.Core.Path.{_≡_, refl, sym, ap, _∙_}
+use mathlib.Core.Bool.{Bool, true, false}
 use mathlib.Core.List.{List}
-use Prim.Native.Nat.{ℕ, zero, suc, _+_, _-_, _≤_, _<_}
-use native.Mathlib.Nat.{add-zero, add-suc}
+use Prim.Native.Nat.{ℕ, zero, suc, _+_, _-_, _*_, _/_, _%_, _≤_, _<_}
+use native.Mathlib.Nat.{add-zero, zero-add}
 use native.Mathlib.Omega.{arith}
-use borrow.Author.Tests.{eq-eqb}
-use Rattle.definitions.specs.Limits.{longestRecord}
-use Rattle.definitions.specs.LedgerWords.{ticketAt, ticketsFrom}
+use lib.Bits.{bitAnd, bitXor, and-le-l}
+use lib.Dec.{ltb}
+use borrow.Author.Tests.{ltb-true, ltb-false, le-ltb, le-leb}
+use Rattle.definitions.specs.Limits.{longestRecord, numberBits, two16, numbersStart}
+use Rattle.definitions.specs.Words.{laneOf, laneAt}
+use Rattle.rules.specs.Lanes.{allLanes, topBits, filledMarks}
+use Rattle.definitions.specs.LedgerWords.{ticketIn, ticketAt, countHeld, heldAt, ticketsFrom, ticketsOf}
 use Rattle.definitions.specs.HeldTickets.{firstHeld}
-use Rattle.ledger.specs.Lookups.{hasNumber, amongPlaces, presentedFor}
-use lib.ListN.{length}
+use Rattle.ledger.specs.Lookups.{NoneHas, FirstLane, presentedFor, decideOn, lengthIn}
+use lib.ListN.{length, getD}
 use Rattle.definitions.specs.Errors.{isAccepted}
-use Rattle.definitions.specs.Requests.{readRequest}
-use Rattle.definitions.specs.declared.error.Error.the-variants.{«KRB_ERR_RESPONSE_TOO_BIG»}
+use Rattle.definitions.specs.Requests.{readRequest, pathOf, requestFor, requestLayout}
+use Rattle.definitions.specs.declared.error.Error.the-variants.{«KRB_ERR_GENERIC»}
 use Rattle.definitions.specs.declared.error.Answer.{Answer}
-use Rattle.definitions.specs.declared.error.Answer.the-variants.{Accepted, Refused}
+use Rattle.definitions.specs.declared.error.Answer.the-variants.{Refused}
 use Rattle.definitions.specs.declared.ticket.Ticket.{Ticket}
 use Rattle.definitions.specs.declared.request.Kind.{Kind}
 use Rattle.definitions.specs.declared.request.Kind.the-variants as kind
+use mir.Syntax.{w32}
+use Rattle.definitions.proofs.Services.{granting, grants}
+use Rattle.definitions.proofs.Decisions.{past-accepted}
+use Rattle.definitions.specs.Answers.{decideRead}
+use mir.Val.{Fits}
+use Rattle.definitions.specs.declared.request.Path.{Path}
+use Rattle.definitions.specs.declared.request.Path.the-variants.{Decide, Refuse}
 use Rattle.definitions.specs.declared.request.RequestReading.{RequestReading}
 use Rattle.definitions.specs.Accounts.{Table}
-use Rattle.definitions.specs.Decisions.{refuse, decideKind, decide}
+use Rattle.definitions.specs.Decisions.{refuse, decideKind, decide, openingChecks, past}
 use Rattle.definitions.specs.declared.decision.Moment.{Moment}
 use Rattle.definitions.specs.declared.decision.Decision.{Decision}
-use Rattle.definitions.proofs.Decisions.{room-short}
 use Rattle.ledger.specs.declared.presented.Presented.{Presented}
-use Rattle.definitions.specs.Answers.{decideReading, decideRequest}
-use Rattle.definitions.proofs.Bools.{or-assoc, or-false, or-no}
-use Rattle.definitions.proofs.LedgerWords.{first-on}
+use Rattle.definitions.specs.Answers.{decideRequest, lengthOf}
+use Rattle.rules.proofs.Lanes.{lanes-other}
+use Rattle.definitions.proofs.LedgerWords.{tickets-start, first-here, first-on, first-end}
+use Rattle.definitions.specs.declared.request.Request.{Request}
+use Rattle.definitions.specs.Fields.{fieldOf, mapOf, Bytes}
+use Rattle.definitions.specs.Output.{writtenOf}
+use Rattle.definitions.specs.Services.{Service, decisionOf}
+use Rattle.definitions.proofs.Services.{granting, grants}
+use Rattle.definitions.specs.Checks.{judge}
+use Rattle.definitions.proofs.Checks.{is-accepted}
+use Rattle.definitions.proofs.TicketRecords.{record-most}
+
+-- marks that have all top bits after another word's had them before, and that word's have them
+pub marks-more : (m x t : ℕ) → m ≤ t → bitAnd m x ≡ t → (m ≡ t) × (bitAnd t x ≡ t)
+marks-more m x t h e =
+    let q : m ≡ t = omega (arith, and-le-l m x) in
+    (q, rw q at e)
+
+-- a number in all lanes, as the code makes it
+all-ones : (v : ℕ) → v * 0x0001000100010001 ≡ allLanes numberBits 4 v
+unfolding allLanes
+all-ones v = omega arith
+
+marks-all : (v x : ℕ) → bitAnd 0x8000800080008000 (filledMarks 15 4 (bitXor x (v * 0x0001000100010001))) ≡ 0x8000800080008000
+    → bitAnd (topBits 15 4) (filledMarks 15 4 (bitXor x (allLanes numberBits 4 v))) ≡ topBits 15 4
+unfolding allLanes
+marks-all v x e = rw (← all-ones v) e
+
+-- one lane more
+pub none-next : (x v k : ℕ) → ((j : ℕ) → j < k → laneOf numberBits x j ≡ v → ⊥) → (laneOf numberBits x k ≡ v → ⊥) → (j : ℕ) → j < k + 1 → laneOf numberBits x j ≡ v → ⊥
+none-next x v k h d j l = by (ltb j k) refl
+  where
+    by : (t : Bool) → ltb j k ≡ t → laneOf numberBits x j ≡ v → ⊥
+    by true e = h j (ltb-true j k e)
+    by false e =
+        let f : k ≤ j = ltb-false j k e in
+        let q : j ≡ k = omega arith in
+        rw q d
+
+-- the word and the lane of a place
+lane-of-four : (i : ℕ) → i % 4 < 4
+lane-of-four i = omega arith
+
+quarter : (i k : ℕ) → 4 * k ≤ i → i < 4 * (k + 1) → i / 4 ≡ k
+quarter i k h l = omega arith
 
 module _ (w : List ℕ) (number : ℕ) where
   -- so many places and so many more
-  pub among-more : (i m n : ℕ) → amongPlaces w number i (m + n) ≡ (amongPlaces w number i m || amongPlaces w number (i + m) n)
-  unfolding amongPlaces
-  among-more i m zero = rw add-zero (sym (or-false (amongPlaces w number i m)))
-  among-more i m (suc n) =
-      let e : i + (m + n) ≡ i + m + n = omega arith in
-      rw (add-suc, among-more i m n, e) (sym (or-assoc (amongPlaces w number i m) (amongPlaces w number (i + m) n) (hasNumber w number (i + m + n))))
+  pub none-more : (a b c : ℕ) → NoneHas w number a b → NoneHas w number b c → NoneHas w number a c
+  none-more a b c p q i h l = by (ltb i b) refl
+    where
+      by : (t : Bool) → ltb i b ≡ t → ticketAt w i .number ≡ number → ⊥
+      by true e = p i h (ltb-true i b e)
+      by false e = q i (ltb-false i b e) l
 
-  -- one place
-  pub among-one : (i : ℕ) → amongPlaces w number i 1 ≡ hasNumber w number i
-  unfolding amongPlaces
-  among-one i = rw add-zero refl
-
-  other : (i : ℕ) → hasNumber w number i ≡ false → ticketAt w i .number ≡ number → ⊥
-  unfolding hasNumber
-  other i h e = false≢true (sym h ∙ eq-eqb (ticketAt w i .number) number e)
+  -- the four places whose numbers stand in a word
+  pub none-in-word : (k : ℕ) → number < two16
+      → bitAnd 0x8000800080008000 (filledMarks 15 4 (bitXor (getD w (numbersStart + k) 0) (number * 0x0001000100010001))) ≡ 0x8000800080008000
+      → NoneHas w number (4 * k) (4 * (k + 1))
+  unfolding ticketAt ticketIn laneAt
+  none-in-word k b e i h l q =
+      lanes-other 15 4 (getD w (numbersStart + k) 0) number (i % 4) b (lane-of-four i) (marks-all number (getD w (numbersStart + k) 0) e) (rw (quarter i k h l) at q)
 
   -- places that have another number are passed
-  pub among-none : (i k n : ℕ) → i + k ≤ n → amongPlaces w number i k ≡ false
-      → firstHeld (ticketsFrom w i (n - i)) number ≡ firstHeld (ticketsFrom w (i + k) (n - (i + k))) number
-  unfolding amongPlaces
-  among-none i zero n l h = rw add-zero refl
-  among-none i (suc k) n l h =
-      let p = or-no (amongPlaces w number i k) (hasNumber w number (i + k)) h in
-      let e : i + suc k ≡ i + k + 1 = omega arith in
-      rw e (among-none i k n (omega arith) (p .0) ∙ first-on w (i + k) n number (omega arith) (other (i + k) (p .1)))
+  none-passed : (d i n : ℕ) → i + d ≤ n → NoneHas w number i (i + d) → firstHeld (ticketsFrom w i (n - i)) number ≡ firstHeld (ticketsFrom w (i + d) (n - (i + d))) number
+  none-passed zero i n l h = rw add-zero refl
+  none-passed (suc d) i n l h =
+      let e : i + suc d ≡ i + 1 + d = omega arith in
+      first-on w i n number (omega arith) (h i (omega arith) (omega arith))
+      ∙ rw e (none-passed d (i + 1) n (omega arith) (λ k p q. h k (omega arith) (omega arith)))
 
-module _ (a : Table) (l : List Ticket) (s : List ℕ) (clock room : ℕ) (q : RequestReading) (e : q ≡ readRequest s) where
-  -- an unreadable request is refused as the reader says
-  pub request-unreadable : isAccepted (q .answer) ≡ false → refuse (q .answer) ≡ decideRequest a l s clock room
-  unfolding decideRequest
-  request-unreadable h = rw (sym e) (by (q .answer) h)
+  -- none before a place past those held has the number
+  pub first-none : (i : ℕ) → countHeld w ≤ i → NoneHas w number 0 i → firstHeld (ticketsOf w) number ≡ heldAt w i
+  unfolding heldAt
+  first-none i l h =
+      let n = countHeld w in
+      rw (le-ltb i n l)
+      (ap (λ (ts : List Ticket). firstHeld ts number) (tickets-start w n refl) ∙ rw zero-add at (none-passed n 0 n (omega arith) (λ k p q. h k p (omega arith)))
+      ∙ first-end w n n number (omega arith))
+
+  -- a place has the number where none before it has
+  pub first-at : (i : ℕ) → NoneHas w number 0 i → ticketAt w i .number ≡ number → firstHeld (ticketsOf w) number ≡ heldAt w i
+  unfolding heldAt
+  first-at i h e = by (ltb i (countHeld w)) refl
     where
-      by : (r : Answer) → isAccepted r ≡ false → refuse r ≡ decideReading r a l s clock room q
-      by Accepted k = absurd (false≢true (sym k))
-      by (Refused n) k = refl
+      by : (t : Bool) → ltb i (countHeld w) ≡ t → firstHeld (ticketsOf w) number ≡ heldAt w i
+      by true q =
+          let n = countHeld w in
+          let l : i < n = ltb-true i n q in
+          rw q (ap (λ (ts : List Ticket). firstHeld ts number) (tickets-start w n refl) ∙ rw zero-add at (none-passed i 0 n (omega arith) (rw zero-add h)) ∙ first-here w i n number l e)
+      by false q = first-none i (ltb-false i (countHeld w) q) h
 
-  -- a readable one is decided with what its kind looks up
-  found-decides : (k : Kind) (m : Moment) → decideKind k a s (q .request) (presentedFor k l (q .request .tgt .number) (q .request .evidence .number) .tgt)
-      (presentedFor k l (q .request .tgt .number) (q .request .evidence .number) .evidence) m
-      ≡ decideKind k a s (q .request) (firstHeld l (q .request .tgt .number)) (firstHeld l (q .request .evidence .number)) m
-  found-decides kind.Initial m = refl
-  found-decides kind.Direct m = refl
-  found-decides kind.S4U2self m = refl
-  found-decides kind.S4U2proxy m = refl
+  -- the places of a word up to a lane
+  pub lanes-none : (i lane : ℕ) → i % 4 ≡ 0 → FirstLane (getD w (numbersStart + i / 4) 0) number lane → NoneHas w number i (i + lane)
+  unfolding ticketAt ticketIn laneAt
+  lanes-none i lane m f p h l q =
+      let d : p / 4 ≡ i / 4 = omega (arith, f .most) in
+      f .passed (p % 4) (omega (arith, f .most)) (rw d at q)
 
-  pub request-decided : (f : Presented) (count : ℕ) (d : Decision) → isAccepted (q .answer) ≡ true
-      → f ≡ presentedFor (q .request .kind) l (q .request .tgt .number) (q .request .evidence .number) → count ≡ length l
-      → d ≡ decide a s (q .request) (f .tgt) (f .evidence) (record { clock = clock; count = count; room = room }) → d ≡ decideRequest a l s clock room
-  unfolding decideRequest
-  request-decided f count d r ef ec ed = rw (sym e) (by (q .answer) r)
-    where
-      by : (r : Answer) → isAccepted r ≡ true → d ≡ decideReading r a l s clock room q
-      by Accepted z = ed ∙ rw (ef, ec) (found-decides (q .request .kind) (record { clock = clock; count = length l; room = room }))
-      by (Refused n) z = absurd (false≢true z)
+  pub lane-found : (i lane : ℕ) → i % 4 ≡ 0 → FirstLane (getD w (numbersStart + i / 4) 0) number lane → lane < 4 → ticketAt w (i + lane) .number ≡ number
+  unfolding ticketAt ticketIn laneAt
+  lane-found i lane m f l =
+      let d : (i + lane) / 4 ≡ i / 4 = omega arith in
+      let e : (i + lane) % 4 ≡ lane = omega arith in
+      rw (d, e) (f .found l)
 
-  -- a readable one whose output is too short is refused whatever the list holds
-  pub request-short : isAccepted (q .answer) ≡ true → room < longestRecord → refuse (Refused «KRB_ERR_RESPONSE_TOO_BIG») ≡ decideRequest a l s clock room
-  unfolding decideRequest
-  request-short r h = rw (sym e) (by (q .answer) r)
-    where
-      by : (r : Answer) → isAccepted r ≡ true → refuse (Refused «KRB_ERR_RESPONSE_TOO_BIG») ≡ decideReading r a l s clock room q
-      by Accepted z = room-short (q .request .kind) a s (q .request) _ _ _ h
-      by (Refused n) z = absurd (false≢true z)
+-- ---- A request on a decision path
+-- the path that the first bytes pick decides
+pub path-decides : (a : Table) (l : List Ticket) (next : ℕ) (s : List ℕ) (clock room : ℕ) (p : Path)
+    → p ≡ pathOf (fieldOf requestLayout s (mapOf s) 0) (mapOf s) → decideOn a l next s clock room p ≡ decideRequest a l next s clock room
+unfolding decideOn decideRequest readRequest
+path-decides a l next s clock room p e = rw e
+
+-- first bytes that pick none are refused
+pub path-refused : (a : Table) (l : List Ticket) (next : ℕ) (s : List ℕ) (clock room : ℕ) → refuse (Refused «KRB_ERR_GENERIC») ≡ decideOn a l next s clock room Refuse
+unfolding decideOn requestFor openingChecks
+path-refused a l next s clock room = refl
+
+-- a request is decided with what its kind looks up
+pub found-decides : (k : Kind) (a : Table) (l : List Ticket) (s : List ℕ) (q : Request) (m : Moment)
+    → decideKind k a s q (presentedFor k l (q .tgt .number) (q .evidence .number) .tgt) (presentedFor k l (q .tgt .number) (q .evidence .number) .evidence) m
+    ≡ decideKind k a s q (firstHeld l (q .tgt .number)) (firstHeld l (q .evidence .number)) m
+found-decides kind.Initial a l s q m = refl
+found-decides kind.Direct a l s q m = refl
+found-decides kind.S4U2self a l s q m = refl
+found-decides kind.S4U2proxy a l s q m = refl
+
+-- a request on a path, decided with what was found, where the opening checks hold
+pub on-decided : (a : Table) (l : List Ticket) (next : ℕ) (s : List ℕ) (clock room : ℕ) (k : Kind) (q : RequestReading) (o : Answer) (f : Presented) (count : ℕ) (d : Decision)
+    → q ≡ requestFor s (mapOf s) (Decide k) → o ≡ judge (openingChecks (q .answer) room) → isAccepted o ≡ true
+    → f ≡ presentedFor (q .request .kind) l (q .request .tgt .number) (q .request .evidence .number) → count ≡ length l
+    → d ≡ decide a s (q .request) (f .tgt) (f .evidence) (record { clock = clock; count = count; next = next }) → d ≡ decideOn a l next s clock room (Decide k)
+unfolding decideOn
+on-decided a l next s clock room k q o f count d eq eo h ef ec ed =
+    let m : Moment = record { clock = clock; count = length l; next = next } in
+    let g : d ≡ decideRead a l s m (q .request) = ed ∙ rw (ef, ec) (found-decides (q .request .kind) a l s (q .request) m) in
+    g ∙ past-accepted o (judge (openingChecks (q .answer) room)) (decideRead a l s m (q .request)) eo h
+    ∙ ap (λ (r : RequestReading). past (judge (openingChecks (r .answer) room)) (decideRead a l s m (r .request))) eq
+
+-- ---- The length of a grant's record is what the writer answers, and at most the longest
+pub granted-length : (s : Service) (bytes : List ℕ) (clock room : ℕ) (d : Decision) → d ≡ decisionOf s bytes clock room → Bytes bytes → Fits w32 clock
+    → isAccepted (d .answer) ≡ true → (lengthIn (writtenOf (d .ticket) room) ≡ lengthOf (d .answer) (d .ticket)) × (lengthIn (writtenOf (d .ticket) room) ≤ longestRecord)
+unfolding writtenOf
+granted-length s bytes clock room d e b f h =
+    let g = granting s bytes clock room (d .ticket) b f (sym e ∙ grants d h) in
+    rw (g .writable .well-formed, le-leb longestRecord room (g .fits), is-accepted (d .answer) h)
+    (refl, record-most (d .ticket) (g .writable .in-range .places))

@@ -4,10 +4,16 @@ use Prim.Native.Nat.{ℕ, _+_}
 use mathlib.Core.Option.{Option, some, none}
 use Rattle.definitions.specs.declared.descended.Descended.{Descended}
 use Rattle.definitions.specs.declared.descended.Descended.the-variants.{Steps, Refused}
+use Rattle.definitions.specs.declared.decision.Held.{Held}
+use Rattle.ledger.specs.declared.steps.Standing.{Standing}
 use Rattle.ledger.specs.declared.steps.Back.{Back}
 use Rattle.ledger.specs.declared.steps.Back.the-variants.{Stop, To}
 
 -- ---- The descent call
+-- what a number stands for, its origin alone
+abbrev pub standingOf : Held → Standing
+standingOf held = record { found = held .found; origin = held .ticket .origin }
+
 -- where a back number leads: nowhere from an initial ticket
 abbrev pub backTo : Option ℕ → Back
 backTo none = Stop

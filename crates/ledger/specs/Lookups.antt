@@ -1,16 +1,40 @@
 -- How the code looks tickets up: for each kind what it presents, and many places at a time (R5.1, R7.1). No exported promise speaks of it; it ties
 -- the look-up to `firstHeld`.
 -- Assumes nothing.
-use Prim.Native.Nat.{ℕ, zero, suc, _+_}
-use mathlib.Core.Bool.{Bool, false, _||_}
+use Prim.Native.Nat.{ℕ, _≤_, _<_}
+use mathlib.Core.Path.{_≡_}
 use mathlib.Core.List.{List}
-use lib.Dec.{eqb}
+use Rattle.definitions.specs.Limits.{numberBits, numbersInWord}
+use Rattle.definitions.specs.Words.{laneOf}
 use Rattle.definitions.specs.LedgerWords.{ticketAt}
 use Rattle.definitions.specs.HeldTickets.{notHeld, firstHeld}
 use Rattle.ledger.specs.declared.presented.Presented.{Presented}
 use Rattle.definitions.specs.declared.ticket.Ticket.{Ticket}
 use Rattle.definitions.specs.declared.request.Kind.{Kind}
 use Rattle.definitions.specs.declared.request.Kind.the-variants as kind
+use lib.ListN.{length}
+use Rattle.definitions.specs.Fields.{mapOf}
+use Rattle.definitions.specs.Requests.{requestFor}
+use Rattle.definitions.specs.Accounts.{Table}
+use Rattle.definitions.specs.Checks.{judge}
+use Rattle.definitions.specs.Decisions.{openingChecks, past}
+use Rattle.definitions.specs.Answers.{decideRead}
+use Rattle.definitions.specs.declared.request.Path.{Path}
+use Rattle.definitions.specs.declared.decision.Decision.{Decision}
+use Rattle.definitions.specs.declared.ticket.Written.{Written}
+use Rattle.definitions.specs.declared.ticket.Written.the-variants.{Length, Refused as Unwritten}
+
+-- ---- A request on a decision path
+-- what a request is answered on a path, which its first bytes pick
+unfoldable pub decideOn : Table → List Ticket → ℕ → List ℕ → ℕ → ℕ → Path → Decision
+decideOn table tickets next bytes clock room path =
+    past (judge (openingChecks (requestFor bytes (mapOf bytes) path .answer) room))
+    (decideRead table tickets bytes (record { clock = clock; count = length tickets; next = next }) (requestFor bytes (mapOf bytes) path .request))
+
+-- the length that the writer answered, 0 of a refusal
+abbrev pub lengthIn : Written → ℕ
+lengthIn (Length written) = written
+lengthIn (Unwritten error) = 0
 
 -- ---- What is looked up for a request of each kind: only what its decision asks for
 -- nothing: kind 1 presents no ticket
@@ -33,11 +57,12 @@ presentedFor kind.S4U2self tickets tgt evidence = presentedTgt tickets tgt
 presentedFor kind.S4U2proxy tickets tgt evidence = presentedBoth tickets tgt evidence
 
 -- ---- Tickets, many places at a time
--- the ticket at a place has a number
-unfoldable pub hasNumber : List ℕ → ℕ → ℕ → Bool
-hasNumber words number place = eqb (ticketAt words place .number) number
+-- none of the tickets from a place on and before another has a number
+abbrev pub NoneHas : List ℕ → ℕ → ℕ → ℕ → Type 0
+NoneHas words number from to = (place : ℕ) → from ≤ place → place < to → ticketAt words place .number ≡ number → ⊥
 
--- one of the tickets at n places from one on has it
-unfoldable pub amongPlaces : List ℕ → ℕ → ℕ → ℕ → Bool
-amongPlaces words number place zero = false
-amongPlaces words number place (suc n) = amongPlaces words number place n || hasNumber words number (place + n)
+-- the first lane of a word of numbers that has a number, or one past the last where none has
+pub record FirstLane (word number lane : ℕ) : Type 0 where
+  pub most : lane ≤ numbersInWord
+  pub passed : (k : ℕ) → k < lane → laneOf numberBits word k ≡ number → ⊥
+  pub found : lane < numbersInWord → laneOf numberBits word lane ≡ number

@@ -1,39 +1,43 @@
 // The calls: a fresh service, an edit, and a request (R6.1, R7.2, R7.3).
-use crate::presented::Presented;
 use crate::search::presented_for;
-use crate::storing::fresh_ledger;
 use crate::storing::store_ticket;
 use crate::words::LedgerWords;
 use crate::words::count_held;
+use crate::words::fresh_ledger;
 use definitions::Answer;
 use definitions::Decision;
 use definitions::Error;
-use definitions::Held;
 use definitions::Kind;
-use definitions::LONGEST_RECORD;
 use definitions::Moment;
-use definitions::Request;
-use definitions::RequestReading;
+use definitions::Path;
 use definitions::Ticket;
 use definitions::Written;
 use rules::AccountWords;
+use rules::blank_ticket;
+use rules::check_opening;
 use rules::decide;
 use rules::edit_account;
 use rules::fresh_accounts;
 use rules::is_accepted;
-use rules::read_request;
+use rules::read_rest;
 use rules::refuse;
+use rules::request_path;
 use rules::write_ticket;
 ghost use mathlib.Core.Path.{_≡_};
 ghost use mathlib.Core.List.{List, []};
-ghost use Prim.Native.Nat.{ℕ};
+ghost use Prim.Native.Nat.{ℕ, _≤_};
 ghost use Rattle.definitions.specs.TicketRecords.{blankTicket};
+ghost use Rattle.definitions.specs.Limits.{longestRecord};
 ghost use Rattle.definitions.specs.AccountWords.{tableOf};
 ghost use Rattle.definitions.specs.Edits.{editOf};
-ghost use Rattle.definitions.specs.LedgerWords.{ticketsOf};
-ghost use Rattle.definitions.specs.Answers.{decideRequest};
-ghost use Rattle.definitions.specs.Promises.{freshService, Edited, Requested};
+ghost use Rattle.definitions.specs.LedgerWords.{countHeld, nextNumber, ticketsOf};
+ghost use Rattle.ledger.specs.Lookups.{decideOn, lengthIn};
+ghost use Rattle.definitions.specs.Answers.{lengthOf};
+ghost use Rattle.definitions.specs.Answers.{edit as an-edit, request as a-request};
+ghost use Rattle.definitions.specs.Services.{freshService, perform};
 ghost use Rattle.definitions.specs.Demand.{Demand3};
+ghost use Rattle.definitions.specs.Requests.{pathOf, requestLayout};
+ghost use Rattle.definitions.specs.Fields.{fieldOf, mapOf};
 
 // A fresh service, with no account set and no ticket held.
 pub fn fresh(accounts: &mut AccountWords, ledger: &mut LedgerWords)
@@ -53,68 +57,125 @@ pub fn edit(
     receive: u64,
     lifetime: u32,
 ) -> Answer
-    ensures { λ r. ⌜ ((l : List ℕ) → Edited (record { accounts = now (accounts .entry); ledger = l }) (editOf number (now (name .entry)) flags send receive lifetime) (record { answer = r; ticket = blankTicket; output = [] }) (record { accounts = now (accounts .exit); ledger = l })) ⌝ }
+    ensures { λ r. ⌜ ((l : List ℕ) → record { reply = record { answer = r; ticket = blankTicket; output = [] }; service = record { accounts = now (accounts .exit); ledger = l } } ≡ perform (record { accounts = now (accounts .entry); ledger = l }) (an-edit (editOf number (now (name .entry)) flags send receive lifetime))) ⌝ }
 {
     edit_account(accounts, number, name, flags, send, receive, lifetime)
 }
 
-// What a request is answered: read once, its tickets looked up, and decided. A short output is refused before that.
-fn decide_request(
+// What a request is answered on a decision path, where so many tickets are held: read once, its tickets looked up, and decided.
+fn decide_on(
     accounts: &AccountWords,
     ledger: &LedgerWords,
+    count: usize,
     bytes: &[u8],
     clock: u32,
     room: usize,
+    kind: Kind,
 ) -> Decision
-    ensures { λ r. ⌜ r ≡ decideRequest (tableOf (now (accounts .entry))) (ticketsOf (now (ledger .entry))) (now (bytes .entry)) clock room ⌝ }
+    requires { ⌜ count ≡ countHeld (now ledger) ⌝ }
+    ensures { λ r. ⌜ r ≡ decideOn (tableOf (now (accounts .entry))) (ticketsOf (now (ledger .entry))) (nextNumber (now (ledger .entry))) (now (bytes .entry)) clock room (Path.Decide kind) ⌝ }
 {
-    let reading = read_request(bytes);
-    let answer = reading.answer;
-    if !is_accepted(answer) {
-        return refuse(answer);
-    }
-    if room < LONGEST_RECORD {
-        return refuse(Answer::Refused(Error::KRB_ERR_RESPONSE_TOO_BIG));
+    let reading = read_rest(bytes, kind);
+    let read = reading.answer;
+    let opening = check_opening(read, room);
+    if !is_accepted(opening) {
+        return refuse(opening);
     }
     let request = reading.request;
     let tgt = request.tgt;
     let evidence = request.evidence;
-    let kind = request.kind;
-    let held = presented_for(ledger, kind, tgt.number, evidence.number);
-    let tgt_held = held.tgt;
-    let evidence_held = held.evidence;
-    let count = count_held(ledger);
+    let asked = request.kind;
+    let found = presented_for(ledger, count, asked, tgt.number, evidence.number);
+    let tgt_held = found.tgt;
+    let evidence_held = found.evidence;
+    let next = count as u16;
     decide(
         accounts,
         bytes,
         request,
         tgt_held,
         evidence_held,
-        Moment { clock, count, room },
+        Moment { clock, count, next },
     )
 }
 
-// Answers a request. A grant stores its ticket and writes its record to the output's start; a refusal changes nothing.
-pub fn request(
-    accounts: &AccountWords,
+// The length that the writer answered, 0 of a refusal.
+fn length_in(written: Written) -> usize
+    ensures { λ r. ⌜ r ≡ lengthIn written ⌝ }
+{
+    match written {
+        Written::Length(length) => length,
+        Written::Refused(_) => 0,
+    }
+}
+
+// What a request is answered, with the length of a grant's record; 0 beside a refusal.
+pub struct Replied {
+    pub answer: Answer,
+    pub ticket: Ticket,
+    pub length: usize,
+}
+
+// Answers a request on the decision path that its first bytes pick.
+fn answer_on(
+    accounts: &mut AccountWords,
     ledger: &mut LedgerWords,
     bytes: &[u8],
     clock: u32,
     output: &mut [u8],
-) -> Decision
-    ensures { λ r. ⌜ Requested (record { accounts = now (accounts .entry); ledger = now (ledger .entry) }) (now (bytes .entry)) clock (now (output .entry)) (record { answer = r .answer; ticket = r .ticket; output = now (output .exit) }) (record { accounts = now (accounts .exit); ledger = now (ledger .exit) }) ⌝ }
+    kind: Kind,
+) -> Replied
+    requires { ⌜ Path.Decide kind ≡ pathOf (fieldOf requestLayout (now bytes) (mapOf (now bytes)) 0) (mapOf (now bytes)) ⌝ }
+    ensures performed { λ r. ⌜ record { reply = record { answer = r .answer; ticket = r .ticket; output = now (output .exit) }; service = record { accounts = now (accounts .exit); ledger = now (ledger .exit) } } ≡ perform (record { accounts = now (accounts .entry); ledger = now (ledger .entry) }) (a-request (now (bytes .entry)) clock (now (output .entry))) ⌝ }
+    ensures measured { λ r. ⌜ r .length ≡ lengthOf (r .answer) (r .ticket) ⌝ }
+    ensures bounded { λ r. ⌜ r .length ≤ longestRecord ⌝ }
 {
-    let decision = decide_request(accounts, ledger, bytes, clock, output.len());
+    let count = count_held(ledger);
+    let decision = decide_on(accounts, ledger, count, bytes, clock, output.len(), kind);
     let answer = decision.answer;
     let ticket = decision.ticket;
-    if is_accepted(answer) {
-        store_ticket(ledger, ticket);
-        write_ticket(ticket, output);
+    if !is_accepted(answer) {
+        return Replied {
+            answer,
+            ticket,
+            length: 0,
+        };
     }
-    decision
+    store_ticket(ledger, count, ticket);
+    let written = write_ticket(ticket, output);
+    let length = length_in(written);
+    Replied {
+        answer,
+        ticket,
+        length,
+    }
 }
 
-// Demand 3 holds of every list of calls that keep these promises (R10.3).
+// Answers a request. A grant stores its ticket and writes its record to the output's start, and leaves the accounts; a refusal changes nothing.
+// First bytes that are no request's are refused before anything else is read.
+pub fn request(
+    accounts: &mut AccountWords,
+    ledger: &mut LedgerWords,
+    bytes: &[u8],
+    clock: u32,
+    output: &mut [u8],
+) -> Replied
+    ensures performed { λ r. ⌜ record { reply = record { answer = r .answer; ticket = r .ticket; output = now (output .exit) }; service = record { accounts = now (accounts .exit); ledger = now (ledger .exit) } } ≡ perform (record { accounts = now (accounts .entry); ledger = now (ledger .entry) }) (a-request (now (bytes .entry)) clock (now (output .entry))) ⌝ }
+    ensures measured { λ r. ⌜ r .length ≡ lengthOf (r .answer) (r .ticket) ⌝ }
+    ensures bounded { λ r. ⌜ r .length ≤ longestRecord ⌝ }
+{
+    let path = request_path(bytes);
+    let Path::Decide(kind) = path else {
+        return Replied {
+            answer: Answer::Refused(Error::KRB_ERR_GENERIC),
+            ticket: blank_ticket(),
+            length: 0,
+        };
+    };
+    answer_on(accounts, ledger, bytes, clock, output, kind)
+}
+
+// Demand 3 holds of every list of calls, performed one after the other (R10.3).
 pub fn demand_3()
     ensures { λ _. ⌜ Demand3 ⌝ }
 {}

@@ -7,6 +7,7 @@ mod storing;
 mod total;
 mod words;
 
+pub use call::Replied;
 pub use call::demand_3;
 pub use call::edit;
 pub use call::fresh;

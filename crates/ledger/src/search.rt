@@ -2,19 +2,23 @@
 use crate::presented::Presented;
 use crate::words::LedgerWords;
 use crate::words::count_held;
-use crate::words::number_at;
+use crate::words::number_in;
+use crate::words::number_word;
 use crate::words::ticket_at;
 use definitions::Held;
 use definitions::Kind;
+use definitions::NUMBERS_IN_WORD;
 use definitions::Ticket;
 use rules::blank_ticket;
-use rules::either;
 ghost use mathlib.Core.Path.{_≡_};
-ghost use Prim.Native.Nat.{_+_, _-_, _<_, _≤_};
-ghost use Rattle.definitions.specs.Limits.{ticketLimit};
+ghost use mathlib.Core.Bool.{true};
+ghost use Prim.Native.Nat.{_+_, _*_, _%_, _<_, _≤_};
+ghost use lib.Bits.{bitXor};
+ghost use Rattle.definitions.specs.Limits.{ticketLimit, numbersInWord, numberWords};
+ghost use Rattle.rules.specs.Lanes.{filledMarks};
 ghost use Rattle.definitions.specs.HeldTickets.{heldTicket, notHeld, firstHeld};
-ghost use Rattle.definitions.specs.LedgerWords.{heldAt, ticketsFrom, ticketsOf};
-ghost use Rattle.ledger.specs.Lookups.{hasNumber, amongPlaces, presentedNone, presentedTgt, presentedBoth, presentedFor};
+ghost use Rattle.definitions.specs.LedgerWords.{countHeld, heldAt, ticketsOf};
+ghost use Rattle.ledger.specs.Lookups.{NoneHas, FirstLane, presentedNone, presentedTgt, presentedBoth, presentedFor};
 
 // A ticket that is held.
 fn held_ticket(t: Ticket) -> Held
@@ -36,101 +40,118 @@ fn not_held() -> Held
     }
 }
 
-// The ticket at a place of those held.
-pub fn held_at(words: &LedgerWords, i: usize) -> Held
+// The ticket at a place of the n that are held.
+fn held_in(words: &LedgerWords, n: usize, i: usize) -> Held
+    requires { ⌜ n ≡ countHeld (now words) ⌝ }
     ensures { λ r. ⌜ r ≡ heldAt (now (words .entry)) i ⌝ }
 {
-    if i < count_held(words) {
+    if i < n {
         held_ticket(ticket_at(words, i))
     } else {
         not_held()
     }
 }
 
-// Whether the ticket at a place has a number.
-fn has_number(words: &LedgerWords, i: usize, number: u16) -> bool
-    requires { ⌜ i < ticketLimit ⌝ }
-    ensures { λ r. ⌜ r ≡ hasNumber (now (words .entry)) number i ⌝ }
+// The ticket at a place of those held.
+pub fn held_at(words: &LedgerWords, i: usize) -> Held
+    ensures { λ r. ⌜ r ≡ heldAt (now (words .entry)) i ⌝ }
 {
-    number_at(words, i) == number
+    held_in(words, count_held(words), i)
 }
 
-// The same of two places, of four, of eight and of sixteen: tests without branches, so that many places cost little more than one.
-fn among_two(words: &LedgerWords, i: usize, number: u16) -> bool
-    requires { ⌜ i + 2 ≤ ticketLimit ⌝ }
-    ensures { λ r. ⌜ r ≡ amongPlaces (now (words .entry)) number i 2 ⌝ }
+// The number 1 in all lanes of a word; the top bit of each lane, and all other bits.
+const ONES: u64 = 0x0001_0001_0001_0001;
+
+const TOP_BITS: u64 = 0x8000_8000_8000_8000;
+
+const LOW_BITS: u64 = 0x7FFF_7FFF_7FFF_7FFF;
+
+// A word that has the top bit of a lane where that lane of a word of numbers has another number than the one in all lanes.
+fn other_marks(word: u64, all: u64) -> u64
+    ensures { λ r. ⌜ r ≡ filledMarks 15 numbersInWord (bitXor word all) ⌝ }
 {
-    either(
-        has_number(words, i, number),
-        has_number(words, i + 1, number),
-    )
+    let apart = word ^ all;
+    ((apart & LOW_BITS) + LOW_BITS) | apart
 }
 
-fn among_four(words: &LedgerWords, i: usize, number: u16) -> bool
-    requires { ⌜ i + 4 ≤ ticketLimit ⌝ }
-    ensures { λ r. ⌜ r ≡ amongPlaces (now (words .entry)) number i 4 ⌝ }
+// Whether no ticket has a number, of those whose numbers stand in n words from one on. There is no branch, so that many words cost little
+// more than one.
+fn none_among(words: &LedgerWords, from: usize, n: usize, number: u16) -> bool
+    requires { ⌜ from + n ≤ numberWords ⌝ }
+    ensures { λ r. ⌜ (r ≡ true → NoneHas (now (words .entry)) number (numbersInWord * from) (numbersInWord * (from + n))) ⌝ }
 {
-    either(among_two(words, i, number), among_two(words, i + 2, number))
+    let all = number as u64 * ONES;
+    let mut marks = TOP_BITS;
+    let mut i = from;
+    while i < from + n {
+        marks = marks & other_marks(number_word(words, i), all);
+        i += 1;
+    }
+    marks == TOP_BITS
 }
 
-fn among_eight(words: &LedgerWords, i: usize, number: u16) -> bool
-    requires { ⌜ i + 8 ≤ ticketLimit ⌝ }
-    ensures { λ r. ⌜ r ≡ amongPlaces (now (words .entry)) number i 8 ⌝ }
-{
-    either(
-        among_four(words, i, number),
-        among_four(words, i + 4, number),
-    )
-}
-
-fn among_sixteen(words: &LedgerWords, i: usize, number: u16) -> bool
-    requires { ⌜ i + 16 ≤ ticketLimit ⌝ }
-    ensures { λ r. ⌜ r ≡ amongPlaces (now (words .entry)) number i 16 ⌝ }
-{
-    either(
-        among_eight(words, i, number),
-        among_eight(words, i + 8, number),
-    )
-}
-
-// A place before which no ticket has one of two numbers. Of each place only the first word is read, sixteen places at a time.
-fn skip(words: &LedgerWords, from: usize, n: usize, a: u16, b: u16) -> usize
-    requires { ⌜ (from ≤ n) × (n ≤ ticketLimit) ⌝ }
-    ensures bounded { λ r. ⌜ r ≤ n ⌝ }
-    ensures first { λ r. ⌜ firstHeld (ticketsFrom (now (words .entry)) from (n - from)) a ≡ firstHeld (ticketsFrom (now (words .entry)) r (n - r)) a ⌝ }
-    ensures second { λ r. ⌜ firstHeld (ticketsFrom (now (words .entry)) from (n - from)) b ≡ firstHeld (ticketsFrom (now (words .entry)) r (n - r)) b ⌝ }
+// A place from one on before which no ticket has a number, by steps of some places, four to a word. The last step is left to smaller ones.
+fn skip(words: &LedgerWords, from: usize, end: usize, step: usize, number: u16) -> usize
+    requires { ⌜ (from % numbersInWord ≡ 0) × (from ≤ ticketLimit) × (end ≤ ticketLimit) × (0 < step) × (step % numbersInWord ≡ 0) × (step ≤ ticketLimit) ⌝ }
+    ensures whole { λ r. ⌜ r % numbersInWord ≡ 0 ⌝ }
+    ensures bounded { λ r. ⌜ r ≤ ticketLimit ⌝ }
+    ensures passed { λ r. ⌜ NoneHas (now (words .entry)) number from r ⌝ }
 {
     let mut i = from;
-    while i + 16 <= n {
-        if either(among_sixteen(words, i, a), among_sixteen(words, i, b)) {
+    while i + step < end {
+        if !none_among(words, i / NUMBERS_IN_WORD, step / NUMBERS_IN_WORD, number) {
             return i;
         }
-        i += 16;
+        i += step;
     }
     i
 }
 
-// The first ticket of a number among the places from one on to n.
-fn first_from(words: &LedgerWords, from: usize, n: usize, number: u16) -> Held
-    requires { ⌜ (from ≤ n) × (n ≤ ticketLimit) ⌝ }
-    ensures { λ r. ⌜ r ≡ firstHeld (ticketsFrom (now (words .entry)) from (n - from)) number ⌝ }
+// The first lane of a word of numbers that has a number; one past the last where none has.
+fn lane_of(word: u64, number: u16) -> usize
+    ensures { λ r. ⌜ FirstLane word number r ⌝ }
 {
-    let mut i = skip(words, from, n, number, number);
-    while i < n {
-        if number_at(words, i) == number {
-            return held_ticket(ticket_at(words, i));
+    let mut k = 0;
+    while k < NUMBERS_IN_WORD {
+        if number_in(word, k) == number {
+            return k;
         }
-        i += 1;
+        k += 1;
     }
-    not_held()
+    NUMBERS_IN_WORD
+}
+
+// The first place whose ticket has a number, of the `end` that are held, and one past them where none has: by 64 places, by 16, and then word
+// by word.
+pub(crate) fn place_of(words: &LedgerWords, end: usize, number: u16) -> usize
+    requires { ⌜ end ≡ countHeld (now words) ⌝ }
+    ensures { λ r. ⌜ firstHeld (ticketsOf (now (words .entry))) number ≡ heldAt (now (words .entry)) r ⌝ }
+{
+    let near = skip(words, 0, end, 64, number);
+    let mut i = skip(words, near, end, 16, number);
+    while i < end {
+        let lane = lane_of(number_word(words, i / NUMBERS_IN_WORD), number);
+        if lane < NUMBERS_IN_WORD {
+            return i + lane;
+        }
+        i += NUMBERS_IN_WORD;
+    }
+    i
+}
+
+// The first ticket of a number, of the n that are held.
+fn first_in(words: &LedgerWords, n: usize, number: u16) -> Held
+    requires { ⌜ n ≡ countHeld (now words) ⌝ }
+    ensures { λ r. ⌜ r ≡ firstHeld (ticketsOf (now (words .entry))) number ⌝ }
+{
+    held_in(words, n, place_of(words, n, number))
 }
 
 // The first ticket of a number.
 pub fn first_held(words: &LedgerWords, number: u16) -> Held
     ensures { λ r. ⌜ r ≡ firstHeld (ticketsOf (now (words .entry))) number ⌝ }
 {
-    let n = count_held(words);
-    first_from(words, 0, n, number)
+    first_in(words, count_held(words), number)
 }
 
 // Nothing is looked up.
@@ -143,36 +164,43 @@ fn presented_none() -> Presented
     }
 }
 
-// The TGT alone is looked up.
-fn presented_tgt(words: &LedgerWords, tgt: u16) -> Presented
+// The TGT alone is looked up, among the n tickets that are held.
+fn presented_tgt(words: &LedgerWords, n: usize, tgt: u16) -> Presented
+    requires { ⌜ n ≡ countHeld (now words) ⌝ }
     ensures { λ r. ⌜ r ≡ presentedTgt (ticketsOf (now (words .entry))) tgt ⌝ }
 {
     Presented {
-        tgt: first_held(words, tgt),
+        tgt: first_in(words, n, tgt),
         evidence: not_held(),
     }
 }
 
-// The TGT and the evidence are looked up, in one pass over the places that have neither.
-fn presented_both(words: &LedgerWords, tgt: u16, evidence: u16) -> Presented
+// The TGT and the evidence are looked up.
+fn presented_both(words: &LedgerWords, n: usize, tgt: u16, evidence: u16) -> Presented
+    requires { ⌜ n ≡ countHeld (now words) ⌝ }
     ensures { λ r. ⌜ r ≡ presentedBoth (ticketsOf (now (words .entry))) tgt evidence ⌝ }
 {
-    let n = count_held(words);
-    let from = skip(words, 0, n, tgt, evidence);
     Presented {
-        tgt: first_from(words, from, n, tgt),
-        evidence: first_from(words, from, n, evidence),
+        tgt: first_in(words, n, tgt),
+        evidence: first_in(words, n, evidence),
     }
 }
 
-// Looks up what a request of a kind presents.
-pub(crate) fn presented_for(words: &LedgerWords, kind: Kind, tgt: u16, evidence: u16) -> Presented
+// Looks up what a request of a kind presents, among the n tickets that are held.
+pub(crate) fn presented_for(
+    words: &LedgerWords,
+    n: usize,
+    kind: Kind,
+    tgt: u16,
+    evidence: u16,
+) -> Presented
+    requires { ⌜ n ≡ countHeld (now words) ⌝ }
     ensures { λ r. ⌜ r ≡ presentedFor kind (ticketsOf (now (words .entry))) tgt evidence ⌝ }
 {
     match kind {
         Kind::Initial => presented_none(),
-        Kind::Direct => presented_tgt(words, tgt),
-        Kind::S4U2self => presented_tgt(words, tgt),
-        Kind::S4U2proxy => presented_both(words, tgt, evidence),
+        Kind::Direct => presented_tgt(words, n, tgt),
+        Kind::S4U2self => presented_tgt(words, n, tgt),
+        Kind::S4U2proxy => presented_both(words, n, tgt, evidence),
     }
 }

@@ -1,7 +1,7 @@
 // The day total (R7.5).
 use crate::words::LedgerWords;
 use crate::words::count_held;
-use definitions::PLACE_SIZE;
+use crate::words::window_word;
 use definitions::TWO_32;
 ghost use mathlib.Core.Path.{_≡_};
 ghost use Prim.Native.Nat.{_<_};
@@ -15,7 +15,7 @@ fn seconds_at(words: &LedgerWords, i: usize) -> u64
     ensures exact { λ r. ⌜ r ≡ secondsOf (ticketAt (now (words .entry)) i .window) ⌝ }
     ensures bounded { λ r. ⌜ r < two32 ⌝ }
 {
-    let word = words[PLACE_SIZE * i + 2];
+    let word = window_word(words, i);
     let start = word % TWO_32;
     let end = word / TWO_32 % TWO_32;
     if start < end { end - start } else { 0 }

@@ -1,22 +1,37 @@
-// The ledger's words: the count, and four for each place: number, client, service and flags; start and end; the origin's tag, barred mark, hops
-// and back numbers; the trail, its first byte lowest (R7.1). Offsets are seen here, in the total and in the storing, and nowhere else.
+// The ledger's words: a header with the count; the tickets' numbers, four a word; and four words for each place: flags, client, service, hops,
+// the origin's tag and the barred mark; start and end; the back numbers; the trail, its first byte lowest (R7.1). Offsets are seen here and
+// nowhere else.
+use definitions::BACK_WORD;
+use definitions::COUNT_WORD;
 use definitions::LEDGER_SIZE;
+use definitions::NUMBER_BITS;
+use definitions::NUMBERS_IN_WORD;
+use definitions::NUMBERS_START;
 use definitions::Origin;
 use definitions::PLACE_SIZE;
+use definitions::PLACES_START;
 use definitions::TICKET_LIMIT;
+use definitions::TRAIL_WORD;
+use definitions::TWO_4;
 use definitions::TWO_8;
 use definitions::TWO_16;
-use definitions::TWO_24;
 use definitions::TWO_32;
+use definitions::TWO_40;
 use definitions::TWO_48;
+use definitions::TWO_56;
+use definitions::TWO_60;
 use definitions::Ticket;
+use definitions::WINDOW_WORD;
 use definitions::Window;
 ghost use mathlib.Core.Path.{_≡_};
-ghost use Prim.Native.Nat.{_<_, _≤_};
-ghost use Rattle.definitions.specs.Limits.{ticketLimit};
-ghost use Rattle.definitions.specs.LedgerWords.{originIn, ticketIn, ticketAt, countHeld};
+ghost use mathlib.Core.List.{[], _∷_};
+ghost use Prim.Native.Nat.{_+_, _<_, _≤_, _/_, _%_};
+ghost use lib.ListN.{getD, set};
+ghost use Rattle.definitions.specs.Limits.{ticketLimit, numberBits, countWord, numbersInWord, numberWords, numbersStart, placeSize, windowWord, two56, two4, two32, two16, two48};
+ghost use Rattle.definitions.specs.Words.{laneOf, setLane, putLane, putRow};
+ghost use Rattle.definitions.specs.LedgerWords.{placeStart, placeWord, originIn, windowIn, ticketIn, ticketAt, countHeld, noTicketWords};
 
-// The words of the count and of all places.
+// The words of the header, of all numbers and of all places.
 pub type LedgerWords = [u64; LEDGER_SIZE];
 
 // How many tickets are held: the stored count, at most all places.
@@ -24,7 +39,7 @@ pub fn count_held(words: &LedgerWords) -> usize
     ensures exact { λ r. ⌜ r ≡ countHeld (now (words .entry)) ⌝ }
     ensures bounded { λ r. ⌜ r ≤ ticketLimit ⌝ }
 {
-    let n = words[0];
+    let n = words[COUNT_WORD];
     if n < TICKET_LIMIT as u64 {
         n as usize
     } else {
@@ -32,13 +47,42 @@ pub fn count_held(words: &LedgerWords) -> usize
     }
 }
 
-// The origin of a place's third word.
-fn origin_in(c: u64) -> Origin
-    ensures { λ r. ⌜ r ≡ originIn c ⌝ }
+// A word of the numbers.
+pub(crate) fn number_word(words: &LedgerWords, k: usize) -> u64
+    requires { ⌜ k < numberWords ⌝ }
+    ensures { λ r. ⌜ r ≡ getD (now (words .entry)) (numbersStart + k) 0 ⌝ }
 {
-    let tag = c % TWO_8;
-    let tgt = (c / TWO_32 % TWO_16) as u16;
-    let evidence = (c / TWO_48 % TWO_16) as u16;
+    words[NUMBERS_START + k]
+}
+
+// The number in a lane of a word of numbers.
+pub(crate) fn number_in(word: u64, k: usize) -> u16
+    requires { ⌜ k < numbersInWord ⌝ }
+    ensures { λ r. ⌜ r ≡ laneOf numberBits word k ⌝ }
+{
+    ((word >> (NUMBER_BITS * k)) % TWO_16) as u16
+}
+
+// The number of the ticket at a place.
+fn number_at(words: &LedgerWords, i: usize) -> u16
+    requires { ⌜ i < ticketLimit ⌝ }
+    ensures { λ r. ⌜ r ≡ ticketAt (now (words .entry)) i .number ⌝ }
+{
+    number_in(number_word(words, i / NUMBERS_IN_WORD), i % NUMBERS_IN_WORD)
+}
+
+// A word of a place.
+fn place_word(words: &LedgerWords, i: usize, k: usize) -> u64
+    requires { ⌜ (i < ticketLimit) × (k < placeSize) ⌝ }
+    ensures { λ r. ⌜ r ≡ placeWord (now (words .entry)) i k ⌝ }
+{
+    words[PLACES_START + PLACE_SIZE * i + k]
+}
+
+// The origin of a tag and two back numbers.
+fn origin_in(tag: u64, tgt: u16, evidence: u16) -> Origin
+    ensures { λ r. ⌜ r ≡ originIn tag tgt evidence ⌝ }
+{
     if tag == 0 {
         return Origin::Initial;
     }
@@ -51,11 +95,47 @@ fn origin_in(c: u64) -> Origin
     Origin::Delegated(tgt, evidence)
 }
 
-// The ticket of four words, with the origin of the third.
-fn with_origin(o: Origin, a: u64, b: u64, c: u64, d: u64) -> Ticket
-    requires { ⌜ o ≡ originIn c ⌝ }
-    ensures { λ r. ⌜ r ≡ ticketIn a b c d ⌝ }
+// The origin of a place's first and third word.
+fn origin_of(a: u64, c: u64) -> Origin
+    ensures { λ r. ⌜ r ≡ originIn (a / two56 % two4) (c / two32 % two16) (c / two48 % two16) ⌝ }
 {
+    let tgt = (c / TWO_32 % TWO_16) as u16;
+    let evidence = (c / TWO_48 % TWO_16) as u16;
+    origin_in(a / TWO_56 % TWO_4, tgt, evidence)
+}
+
+// The origin of the ticket at a place.
+pub(crate) fn origin_at(words: &LedgerWords, i: usize) -> Origin
+    requires { ⌜ i < ticketLimit ⌝ }
+    ensures { λ r. ⌜ r ≡ ticketAt (now (words .entry)) i .origin ⌝ }
+{
+    origin_of(place_word(words, i, 0), place_word(words, i, BACK_WORD))
+}
+
+// The window of a place's second word.
+fn window_in(b: u64) -> Window
+    ensures { λ r. ⌜ r ≡ windowIn b ⌝ }
+{
+    Window {
+        start: (b % TWO_32) as u32,
+        end: (b / TWO_32 % TWO_32) as u32,
+    }
+}
+
+// The word of a place's start and end.
+pub(crate) fn window_word(words: &LedgerWords, i: usize) -> u64
+    requires { ⌜ i < ticketLimit ⌝ }
+    ensures { λ r. ⌜ r ≡ placeWord (now (words .entry)) i windowWord ⌝ }
+{
+    place_word(words, i, WINDOW_WORD)
+}
+
+// The ticket of a number and four words; any words are some ticket.
+fn ticket_in(number: u16, a: u64, b: u64, c: u64, d: u64) -> Ticket
+    ensures { λ r. ⌜ r ≡ ticketIn number a b c d ⌝ }
+{
+    let origin = origin_of(a, c);
+    let window = window_in(b);
     let trail = [
         (d % 256) as u8,
         (d / 256 % 256) as u8,
@@ -67,26 +147,16 @@ fn with_origin(o: Origin, a: u64, b: u64, c: u64, d: u64) -> Ticket
         (d / 72057594037927936 % 256) as u8,
     ];
     Ticket {
-        number: (a % TWO_16) as u16,
-        flags: (a / TWO_32 % TWO_32) as u32,
-        client: (a / TWO_16 % TWO_8) as u8,
-        service: (a / TWO_24 % TWO_8) as u8,
-        window: Window {
-            start: (b % TWO_32) as u32,
-            end: (b / TWO_32 % TWO_32) as u32,
-        },
-        origin: o,
+        number,
+        flags: (a % TWO_32) as u32,
+        client: (a / TWO_32 % TWO_8) as u8,
+        service: (a / TWO_40 % TWO_8) as u8,
+        window,
+        origin,
         trail,
-        hops: (c / TWO_16 % TWO_8) as u8,
-        barred: c / TWO_8 % TWO_8 == 1,
+        hops: (a / TWO_48 % TWO_8) as u8,
+        barred: a / TWO_60 % TWO_4 == 1,
     }
-}
-
-// The ticket of four words; any words are some ticket.
-fn ticket_in(a: u64, b: u64, c: u64, d: u64) -> Ticket
-    ensures { λ r. ⌜ r ≡ ticketIn a b c d ⌝ }
-{
-    with_origin(origin_in(c), a, b, c, d)
 }
 
 // The ticket at a place.
@@ -94,14 +164,56 @@ pub(crate) fn ticket_at(words: &LedgerWords, i: usize) -> Ticket
     requires { ⌜ i < ticketLimit ⌝ }
     ensures { λ r. ⌜ r ≡ ticketAt (now (words .entry)) i ⌝ }
 {
-    let at = PLACE_SIZE * i;
-    ticket_in(words[at + 1], words[at + 2], words[at + 3], words[at + 4])
+    let number = number_at(words, i);
+    let a = place_word(words, i, 0);
+    let b = window_word(words, i);
+    let c = place_word(words, i, BACK_WORD);
+    let d = place_word(words, i, TRAIL_WORD);
+    ticket_in(number, a, b, c, d)
 }
 
-// The number of the ticket at a place.
-pub(crate) fn number_at(words: &LedgerWords, i: usize) -> u16
-    requires { ⌜ i < ticketLimit ⌝ }
-    ensures { λ r. ⌜ r ≡ ticketAt (now (words .entry)) i .number ⌝ }
+// Puts the count.
+pub(crate) fn put_count(words: &mut LedgerWords, n: usize)
+    ensures { λ _. ⌜ now (words .exit) ≡ set (now (words .entry)) countWord n ⌝ }
 {
-    (words[PLACE_SIZE * i + 1] % TWO_16) as u16
+    words[COUNT_WORD] = n as u64;
+}
+
+// A word of numbers with another number in one of its lanes.
+fn with_number(word: u64, k: usize, number: u16) -> u64
+    requires { ⌜ k < numbersInWord ⌝ }
+    ensures { λ r. ⌜ r ≡ setLane numberBits word k number ⌝ }
+{
+    let shift = NUMBER_BITS * k;
+    let old = (word >> shift) % TWO_16;
+    word - (old << shift) + ((number as u64) << shift)
+}
+
+// Puts the number of a place.
+pub(crate) fn put_number(words: &mut LedgerWords, i: usize, number: u16)
+    requires { ⌜ i < ticketLimit ⌝ }
+    ensures { λ _. ⌜ now (words .exit) ≡ putLane numberBits (now (words .entry)) numbersStart i number ⌝ }
+{
+    let k = i / NUMBERS_IN_WORD;
+    let word = number_word(words, k);
+    words[NUMBERS_START + k] = with_number(word, i % NUMBERS_IN_WORD, number);
+}
+
+// Puts the four words of a place.
+pub(crate) fn put_place(words: &mut LedgerWords, i: usize, a: u64, b: u64, c: u64, d: u64)
+    requires { ⌜ i < ticketLimit ⌝ }
+    ensures { λ _. ⌜ now (words .exit) ≡ putRow (now (words .entry)) (placeStart i) (a ∷ b ∷ c ∷ d ∷ []) ⌝ }
+{
+    let at = PLACES_START + PLACE_SIZE * i;
+    words[at] = a;
+    words[at + WINDOW_WORD] = b;
+    words[at + BACK_WORD] = c;
+    words[at + TRAIL_WORD] = d;
+}
+
+// A ledger without tickets (R7.2).
+pub(crate) fn fresh_ledger(words: &mut LedgerWords)
+    ensures { λ _. ⌜ now (words .exit) ≡ noTicketWords ⌝ }
+{
+    *words = [0u64; LEDGER_SIZE];
 }

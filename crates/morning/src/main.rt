@@ -1,10 +1,8 @@
 // The morning of R11.3: three accounts, and the requests W1 to W4, made of the records that were answered.
 // Prints a line for each request: its kind, the error number (0 granted), and the record in hexadecimal, or `-`.
-use definitions::Answer;
-use definitions::Decision;
+use definitions::ACCOUNTS_SIZE;
+use definitions::LEDGER_SIZE;
 use definitions::LONGEST_RECORD;
-use definitions::Ticket;
-use definitions::Written;
 use ledger::LedgerWords;
 use libc::STDOUT_FILENO;
 use rules::AccountWords;
@@ -130,58 +128,35 @@ fn put_proxy(space: &mut [u8; 128], tgt: &[u8], evidence: &[u8], service: &[u8])
 
 // ---- The morning's calls.
 
-// The length of a ticket's record; a ticket that was granted has one.
-fn record_length(ticket: Ticket) -> usize {
-    let mut output = [0u8; LONGEST_RECORD];
-    let written = record::write_ticket(ticket, &mut output);
-    match written {
-        Written::Length(length) => length,
-        Written::Refused(_) => 0,
-    }
-}
-
 // The record of this length at an output's start.
 fn record_in(output: &[u8; LONGEST_RECORD], length: usize) -> &[u8] {
     first(output, length)
 }
 
-// The length of the record that a request was answered, 0 where it was refused.
-fn answered_length(decision: Decision) -> usize {
-    let answer = decision.answer;
-    match answer {
-        Answer::Accepted => record_length(decision.ticket),
-        Answer::Refused(_) => 0,
-    }
-}
-
-fn error_of(decision: Decision) -> u32 {
-    let answer = decision.answer;
-    record::answer_number(answer)
-}
-
 // Makes a request and prints its line; answers the length of the record at the output's start.
 fn ask(
-    accounts: &AccountWords,
+    accounts: &mut AccountWords,
     tickets: &mut LedgerWords,
     kind: u8,
     bytes: &[u8],
     clock: u32,
     output: &mut [u8],
 ) -> usize {
-    let decision = ledger::request(accounts, tickets, bytes, clock, output);
-    let length = answered_length(decision);
-    print_line(kind, error_of(decision), first(output, length));
+    let reply = ledger::request(accounts, tickets, bytes, clock, output);
+    let answer = reply.answer;
+    let length = reply.length;
+    print_line(kind, record::answer_number(answer), first(output, length));
     length
 }
 
 // W1: `web` asks for an initial ticket.
-fn ask_initial(accounts: &AccountWords, tickets: &mut LedgerWords, output: &mut [u8]) -> usize {
+fn ask_initial(accounts: &mut AccountWords, tickets: &mut LedgerWords, output: &mut [u8]) -> usize {
     ask(accounts, tickets, 1, b"\x00\x41\x01\x03web", 1000, output)
 }
 
 // W2: `web` asks for a ticket of `tech` to itself.
 fn ask_self(
-    accounts: &AccountWords,
+    accounts: &mut AccountWords,
     tickets: &mut LedgerWords,
     tgt: &[u8],
     output: &mut [u8],
@@ -193,7 +168,7 @@ fn ask_self(
 
 // W3 and W4: `web` asks for a ticket of that user to `store`.
 fn ask_proxy(
-    accounts: &AccountWords,
+    accounts: &mut AccountWords,
     tickets: &mut LedgerWords,
     tgt: &[u8],
     evidence: &[u8],
@@ -212,7 +187,7 @@ fn ask_proxy(
     );
 }
 
-fn ask_with_tgt(accounts: &AccountWords, tickets: &mut LedgerWords, tgt: &[u8]) {
+fn ask_with_tgt(accounts: &mut AccountWords, tickets: &mut LedgerWords, tgt: &[u8]) {
     let mut output = [0u8; LONGEST_RECORD];
     let length = ask_self(accounts, tickets, tgt, &mut output);
     let evidence = record_in(&output, length);
@@ -220,7 +195,7 @@ fn ask_with_tgt(accounts: &AccountWords, tickets: &mut LedgerWords, tgt: &[u8]) 
     ask_proxy(accounts, tickets, tgt, evidence, 37000);
 }
 
-fn ask_all(accounts: &AccountWords, tickets: &mut LedgerWords) {
+fn ask_all(accounts: &mut AccountWords, tickets: &mut LedgerWords) {
     let mut output = [0u8; LONGEST_RECORD];
     let length = ask_initial(accounts, tickets, &mut output);
     ask_with_tgt(accounts, tickets, record_in(&output, length));
@@ -233,9 +208,9 @@ fn set_accounts(accounts: &mut AccountWords) {
 }
 
 fn main() {
-    let mut accounts = [0u64; 384];
-    let mut tickets = [0u64; 2049];
+    let mut accounts = [0u64; ACCOUNTS_SIZE];
+    let mut tickets = [0u64; LEDGER_SIZE];
     ledger::fresh(&mut accounts, &mut tickets);
     set_accounts(&mut accounts);
-    ask_all(&accounts, &mut tickets);
+    ask_all(&mut accounts, &mut tickets);
 }

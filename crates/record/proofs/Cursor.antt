@@ -1,59 +1,109 @@
 -- Laws of the cursor: what is found at it, and what is put there.
 -- Assumes nothing.
 use mathlib.Core.Path.{_≡_, refl, sym, ap, _∙_}
-use mathlib.Core.Bool.{true, false, cond}
-use mathlib.Core.List.{List, [], _∷_, _++_}
-use Prim.Native.Nat.{ℕ, suc, _+_, _-_, _/_, _%_, _≤_, _<_}
-use native.Mathlib.Nat.{add-zero, add-assoc, zero-add}
-use native.Mathlib.Numerals.{add-one}
+use mathlib.Core.Bool.{Bool, true, false, _&&_, cond}
+use mathlib.Core.List.{List, [], _∷_, _++_, append-nil}
+use Prim.Native.Nat.{ℕ, zero, suc, _+_, _-_, _*_, _/_, _%_, _^_, _≤_, _<_}
+use native.Mathlib.Nat.{add-zero, add-suc, add-assoc, zero-add, mul-le-mul, one-le-pow, zero-lt-suc}
 use native.Mathlib.Omega.{arith}
-use lib.ListN.{length, getD, take, drop, length-append, set, drop-of-length-le}
-use lib.Seq.{take-suc, sets, sets-eq, drop-cons, length-take-le}
-use borrow.Author.Tests.{le-leb, ne-eqb}
-use Rattle.definitions.specs.Limits.{longestRecord}
-use Rattle.definitions.specs.Fields.{hasBit, bigEndian, Layout, widthOf, offsetOf, fieldOf, fieldBytes}
-use Rattle.record.specs.Cursor.{TakenAt, Taken, SpanTaken, Wrote}
-use Rattle.record.specs.declared.field.Field.{Field}
-use Rattle.definitions.specs.Requests.{requestLayout}
-use Rattle.definitions.proofs.Fields.{offset-fixed}
-use Rattle.definitions.specs.TicketRecords.{ticketLayout, allZero, wellFormed, trailBytes, mapOfTicket, recordAs}
+use lib.ListN.{length, getD, take, drop, drop-of-length-le, length-append, set, List·getD-eq-default}
+use lib.Seq.{take-suc, sets, sets-eq, length-take-le}
+use lib.Dec.{leb, eqb}
+use borrow.Author.Tests.{le-leb, leb-true}
+use Rattle.definitions.specs.Limits.{longestRecord, byteBits}
+use Rattle.definitions.specs.Fields.{Bytes, hasBit, numberAt, bigEndian, Layout, row, fieldAt, unitsSize, offsetOf, fieldOf, plain, fieldBytes, bytesTo}
+use Rattle.definitions.specs.declared.field.Field.{Field}
+use Rattle.record.specs.Cursor.{cursorMost, Numbered, Taken, headsMost, Wrote}
+use Rattle.definitions.proofs.Bools.{and-left, and-right}
+use Rattle.definitions.proofs.Fields.{number-one, offset-next, past-there, past-absent, number-missing, length-bigEndian}
+use Rattle.definitions.specs.TicketRecords.{ticketLayout, allZero, wellFormed, mapOfTicket, valuesOf, recordAs}
 use Rattle.definitions.specs.Output.{writtenOf, outputOf}
 use Rattle.definitions.specs.declared.ticket.Ticket.{Ticket}
 use Rattle.definitions.specs.declared.ticket.Written.the-variants.{Length}
+use Rattle.definitions.specs.Words.{packAt}
+use Rattle.definitions.proofs.Words.{pack-shift, pack-zero}
 use Rattle.definitions.proofs.Lists.{sets-append, sets-last}
-use Rattle.definitions.proofs.Output.{length-bigEndian}
-use Rattle.definitions.proofs.Requests.{counted-byte, counted-next}
 
--- the cursor agrees with the sum of the widths: a field taken at bit k's place ends where the next one starts
-pub field-taken : (L : Layout) (s : List ℕ) (m k i : ℕ) (r : Field) → k < L .counted → i ≡ offsetOf L s m k
-    → TakenAt s m k (widthOf L k) i r → Taken L s m k r
-unfolding fieldOf
-field-taken L s m k i r h e t =
+-- ---- Taking
+-- a number with a byte missing is taken as 0
+pub number-none : (s : List ℕ) (i w : ℕ) → length s < i + w → Numbered s i w 0
+unfolding numberAt
+number-none s i w h =
     record {
-      value = t .value ∙ rw e;
-      next = t .next ∙ rw e (sym (offset-fixed L s m k h));
-      fits = t .fits;
+      whole = λ l. absurd (omega arith);
+      single = by w h;
+      counts = sym (number-missing s i w h);
+      fits = one-le-pow w 256 (zero-lt-suc 255);
     }
+  where
+    by : (w : ℕ) → length s < i + w → w ≤ 1 → 0 ≡ numberAt s i w
+    by zero h l = refl
+    by (suc zero) h l = sym (number-one s i ∙ List·getD-eq-default s 0 (omega arith))
+    by (suc (suc w)) h l = absurd (omega arith)
 
-module _ (s : List ℕ) (m k : ℕ) (c : 4 ≤ k) (e : widthOf requestLayout k ≡ 1) where
-  -- the cursor agrees with the definition at a counted field that stands, and at one that does not
-  pub span-there : (i n : ℕ) → i ≡ offsetOf requestLayout s m k → n ≡ cond (hasBit m k) (getD s i 0) 0 → n < 256
-      → hasBit m k ≡ true → SpanTaken s m k i (record { span = record { at = i + 1; len = n }; next = i + 1 + n })
-  span-there i n f g l h =
+-- a whole one is taken as it is
+pub number-whole : (s : List ℕ) (i w x : ℕ) → x ≡ numberAt s i w → x < 256 ^ w → Numbered s i w x
+number-whole s i w x e l = record { whole = λ h. e; single = λ h. e; counts = rw e; fits = l }
+
+-- the bytes behind a head are few
+pub units-few : (u x : ℕ) → u ≤ 4 → u * (x % 256) ≤ 1020
+units-few u x h =
+    let l : x % 256 ≤ 255 = omega arith in
+    mul-le-mul {n₂ = 4} {m₂ = 255} h l
+
+module _ (L : Layout) (s : List ℕ) (m k i : ℕ) (f : Field) (ef : fieldAt L k ≡ f) (ei : i ≡ offsetOf L s m k)
+    (li : i ≤ cursorMost k) where
+  -- a field that stands, and one that does not
+  pub taken-there : (x : ℕ) → f .head ≤ 4 → f .unit ≤ 4 → hasBit m k ≡ true → Numbered s i (f .head) x
+      → Taken L s m k i (record { value = x; next = i + f .head + f .unit * (x % 256) })
+  unfolding fieldOf
+  taken-there x hh hu h n =
       record {
-        span = rw (counted-byte s m k e, sym f, sym g, h);
-        next = rw (counted-next s m k c e, sym f, rw h at g, h) (add-assoc i 1 (getD s i 0));
+        value = λ l. n .whole (omega arith) ∙ rw (h, ef, ei);
+        single = λ l. n .single (rw ef at l) ∙ rw (h, ef, ei);
+        next = sym (offset-next L s m k ∙ rw (sym ei) (past-there L s m k i h ∙ past));
+        fits = rw ef (n .fits);
+        later = omega arith;
+        bounded = omega (arith, units-few (f .unit) x hu);
+      }
+    where
+      past : i + fieldAt L k .head + unitsSize (fieldAt L k) (numberAt s i (fieldAt L k .head)) ≡ i + f .head + f .unit * (x % 256)
+      past = rw (ef, n .counts)
+
+  pub taken-absent : hasBit m k ≡ false → Taken L s m k i (record { value = 0; next = i })
+  unfolding fieldOf
+  taken-absent h =
+      record {
+        value = λ l. rw h;
+        single = λ l. rw h;
+        next = sym (offset-next L s m k ∙ rw (sym ei) (past-absent L s m k i h));
+        fits = one-le-pow (fieldAt L k .head) 256 (zero-lt-suc 255);
+        later = omega arith;
         bounded = omega arith;
       }
 
-  pub span-absent : (i n : ℕ) → i ≡ offsetOf requestLayout s m k → n ≡ cond (hasBit m k) (getD s i 0) 0
-      → hasBit m k ≡ false → SpanTaken s m k i (record { span = record { at = 0; len = n }; next = i })
-  span-absent i n f g h =
-      record {
-        span = rw (counted-byte s m k e, sym f, sym g, h);
-        next = rw (counted-next s m k c e, sym f, h) (sym (add-zero i));
-        bounded = omega arith;
-      }
+-- the rows of a layout have few bytes
+abbrev pub allSmall : Layout → Bool
+allSmall [] = true
+allSmall (f ∷ L) = (leb (f .head) 4 && leb (f .unit) 4) && allSmall L
+
+pub small-at : (L : Layout) → allSmall L ≡ true → (k : ℕ) → (fieldAt L k .head ≤ 4) × (fieldAt L k .unit ≤ 4)
+small-at [] h k = (omega arith, omega arith)
+small-at (f ∷ L) h zero =
+    let a = and-left (leb (f .head) 4 && leb (f .unit) 4) (allSmall L) h in
+    (leb-true (f .head) 4 (and-left (leb (f .head) 4) (leb (f .unit) 4) a), leb-true (f .unit) 4 (and-right (leb (f .head) 4) (leb (f .unit) 4) a))
+small-at (f ∷ L) h (suc k) = small-at L (and-right (leb (f .head) 4 && leb (f .unit) 4) (allSmall L) h) k
+
+-- ---- Putting
+-- how far a cursor gets
+heads-add : (L : Layout) (k n : ℕ) → headsMost L k ≤ headsMost L (k + n)
+heads-add L k zero = rw add-zero (omega arith)
+heads-add L k (suc n) = rw add-suc (omega (arith, heads-add L k n))
+
+pub heads-most : (L : Layout) (k n : ℕ) → k ≤ n → headsMost L k ≤ headsMost L n
+heads-most L k n h =
+    let e : k + (n - k) ≡ n = omega arith in
+    rw e at (heads-add L k (n - k))
 
 -- a big-endian number is stored from its last byte on
 pub put-step : (l : List ℕ) (i j x : ℕ) → sets (set l (i + j) (x % 256)) i (bigEndian j (x / 256)) ≡ sets l i (bigEndian (suc j) x)
@@ -64,19 +114,6 @@ pub copy-step : (l s : List ℕ) (i j : ℕ) → j < length s → set (sets l i 
 copy-step l s i j h =
     let le : j ≤ length s = omega arith in
     sym (rw (take-suc s j 0 h, sets-append, length-take-le j s le))
-
--- a search for a byte that is not 0: one 0 more, the first other byte, and the end
-pub zero-step : (s : List ℕ) (i : ℕ) → i < length s → getD s i 0 ≡ 0 → allZero (drop i s) ≡ allZero (drop (suc i) s)
-unfolding allZero
-zero-step s i h e = rw (drop-cons s i 0 h, e)
-
-pub zero-stop : (s : List ℕ) (i : ℕ) → i < length s → (getD s i 0 ≡ 0 → ⊥) → allZero (drop i s) ≡ false
-unfolding allZero
-zero-stop s i h e = rw (drop-cons s i 0 h, ne-eqb (getD s i 0) 0 e)
-
-pub zero-end : (s : List ℕ) (i : ℕ) → length s ≤ i → allZero (drop i s) ≡ true
-unfolding allZero
-zero-end s i h = rw (drop-of-length-le s h)
 
 -- what is put behind what was put
 pub wrote-then : {o o₁ o₂ : List ℕ} {i a b : ℕ} {vs ws : List ℕ} → Wrote o i vs o₁ a → Wrote o₁ a ws o₂ b → Wrote o i (vs ++ ws) o₂ b
@@ -90,25 +127,41 @@ pub wrote-nothing : {o : List ℕ} {i : ℕ} → Wrote o i [] o i
 wrote-nothing {i} = record { put = refl; past = sym (add-zero i) }
 
 pub field-there : (m k x : ℕ) {o o₁ : List ℕ} {i r : ℕ} → hasBit m k ≡ true
-    → Wrote o i (bigEndian (widthOf ticketLayout k) x) o₁ r → Wrote o i (fieldBytes ticketLayout m k x) o₁ r
+    → Wrote o i (bigEndian (fieldAt ticketLayout k .head) x) o₁ r → Wrote o i (fieldBytes ticketLayout m k (plain x)) o₁ r
 unfolding fieldBytes
-field-there m k x h p = rw h p
+field-there m k x h p = rw (h, append-nil (bigEndian (fieldAt ticketLayout k .head) x)) p
 
-pub field-absent : (m k x : ℕ) {o : List ℕ} {i : ℕ} → hasBit m k ≡ false → Wrote o i (fieldBytes ticketLayout m k x) o i
+pub field-absent : (m k x : ℕ) {o : List ℕ} {i : ℕ} → hasBit m k ≡ false → Wrote o i (fieldBytes ticketLayout m k (plain x)) o i
 unfolding fieldBytes
 field-absent m k x h = rw h wrote-nothing
 
-pub one-more : {o o₁ : List ℕ} {i a v : ℕ} {vs : List ℕ} → Wrote (set o i v) (i + 1) vs o₁ a → Wrote o i (v ∷ vs) o₁ a
-one-more {i} {vs} p = record { put = rw (sym (add-one i)) (p .put); past = omega (arith, p .past) }
+-- what is counted follows the head
+pub counted-there : (m k x : ℕ) (xs : List ℕ) {o o₁ o₂ : List ℕ} {i a r : ℕ} → hasBit m k ≡ true
+    → Wrote o i (fieldBytes ticketLayout m k (plain x)) o₁ a → Wrote o₁ a xs o₂ r
+    → Wrote o i (fieldBytes ticketLayout m k (record { number = x; counted = xs })) o₂ r
+unfolding fieldBytes
+counted-there m k x xs h p q =
+    rw h (wrote-then (rw (h, append-nil (bigEndian (fieldAt ticketLayout k .head) x)) at p) q)
 
-pub trail-there : (m n : ℕ) (t : List ℕ) {o o₁ : List ℕ} {i r : ℕ} → hasBit m 8 ≡ true
-    → Wrote (set o i n) (i + 1) (take n t) o₁ r → Wrote o i (trailBytes m t n) o₁ r
-unfolding trailBytes
-trail-there m n t h p = rw h (one-more p)
+pub counted-absent : (m k x : ℕ) (xs : List ℕ) {o o₁ : List ℕ} {i r : ℕ} → hasBit m k ≡ false
+    → Wrote o i (fieldBytes ticketLayout m k (plain x)) o₁ r → Wrote o i (fieldBytes ticketLayout m k (record { number = x; counted = xs })) o₁ r
+unfolding fieldBytes
+counted-absent m k x xs h p = rw h (rw h at p)
 
-pub trail-absent : (m n : ℕ) (t : List ℕ) {o : List ℕ} {i : ℕ} → hasBit m 8 ≡ false → Wrote o i (trailBytes m t n) o i
-unfolding trailBytes
-trail-absent m n t h = rw h wrote-nothing
+-- a mark has no bytes
+mark-bytes : (m k : ℕ) → fieldAt ticketLayout k ≡ row 0 0 → fieldBytes ticketLayout m k (plain 0) ≡ []
+unfolding fieldBytes bigEndian
+mark-bytes m k e = rw e (by (hasBit m k))
+  where
+    by : (p : Bool) → _≡_ {A = List ℕ} (cond p [] []) []
+    by true = refl
+    by false = refl
+
+-- the record is whole behind its trail
+pub wrote-marks : (t : Ticket) (m : ℕ) {o o₁ : List ℕ} {i r : ℕ} → Wrote o i (bytesTo ticketLayout m (valuesOf t) 9) o₁ r
+    → Wrote o i (recordAs t m) o₁ r
+unfolding recordAs bytesTo
+wrote-marks t m p = rw (mark-bytes m 9 refl, mark-bytes m 10 refl, append-nil (bytesTo ticketLayout m (valuesOf t) 9), append-nil (bytesTo ticketLayout m (valuesOf t) 9)) p
 
 -- the record
 pub wrote-record : (t : Ticket) (o o₁ : List ℕ) (m r : ℕ) → m ≡ mapOfTicket t → wellFormed t m ≡ true → longestRecord ≤ length o
@@ -119,3 +172,13 @@ wrote-record t o o₁ m r e h l b p =
       rw (sym e, h, le-leb longestRecord (length o) l) (ap Length (p .past ∙ zero-add (length (recordAs t m)))),
       rw (sym e, h, le-leb longestRecord (length o) l) (p .put ∙ sets-eq (recordAs t m) o 0 q ∙ rw zero-add),
     )
+
+-- nothing stands behind the accounts of a trail where the word of its places has nothing there
+pub behind-zero : (s : List ℕ) → Bytes s → (n h : ℕ) → length s ≡ n → h ≤ n → eqb (packAt byteBits s 0 n / 2 ^ (8 * h)) 0 ≡ allZero (drop h s)
+behind-zero s b n h e l =
+    let f : h + (n - h) ≡ n = omega arith in
+    ap (λ x. eqb x 0) (rw f at (pack-shift s b 0 h (n - h))) ∙ rw zero-add (pack-zero s h (n - h) (omega arith))
+
+pub behind-none : (s : List ℕ) (h : ℕ) → length s ≤ h → true ≡ allZero (drop h s)
+unfolding allZero
+behind-none s h l = rw (drop-of-length-le s {i = h} l)

@@ -3,6 +3,7 @@ use crate::both;
 use crate::ticket::evidence_of;
 use crate::ticket::origin_map;
 use crate::ticket::tgt_of;
+use crate::ticket::trail_word;
 use definitions::Origin;
 use definitions::Ticket;
 use definitions::Window;
@@ -26,30 +27,13 @@ fn same_origin(a: Origin, b: Origin) -> bool
     )
 }
 
-// Whether two slices have the same bytes.
-fn same_bytes(a: &[u8], b: &[u8]) -> bool
-    ensures { λ r. ⌜ Decides r (now (a .entry) ≡ now (b .entry)) ⌝ }
-{
-    if a.len() != b.len() {
-        return false;
-    }
-    let mut i = 0;
-    while i < a.len() {
-        if a[i] != b[i] {
-            return false;
-        }
-        i += 1;
-    }
-    true
-}
-
 // Whether two tickets have the same trail, accounts and count.
 fn same_trail(a: Ticket, b: Ticket) -> bool
     ensures { λ r. ⌜ Decides r ((a .trail ≡ b .trail) × (a .hops ≡ b .hops)) ⌝ }
 {
     let x = a.trail;
     let y = b.trail;
-    both(same_bytes(&x, &y), a.hops == b.hops)
+    both(trail_word(x) == trail_word(y), a.hops == b.hops)
 }
 
 // Whether two tickets have the same number, flags, client, service and mark.

@@ -2,29 +2,40 @@
 // This file holds what both records are made of: a 16-bit map, and the fields of its bits, taken one after the other at a cursor.
 mod compare;
 mod errors;
-mod field;
+mod found;
+mod packing;
 mod reader;
 mod request;
+mod spelling;
 mod ticket;
 mod writer;
 
 pub use compare::same_ticket;
+use definitions::Field;
 pub use errors::answer_number;
 pub use errors::error_number;
 pub use errors::is_accepted;
-use field::Field;
+use found::Found;
+pub use packing::name_in;
+pub use packing::pack_name;
 pub use reader::read_ticket;
 pub use request::read_request;
+pub use request::read_rest;
+pub use request::request_path;
+pub use spelling::good_name;
+pub use spelling::set_length;
 pub use ticket::blank_ticket;
-pub use writer::record_length;
+pub use ticket::evidence_of;
+pub use ticket::tgt_of;
+pub use ticket::trail_word;
 pub use writer::write_ticket;
 ghost use mathlib.Core.Path.{_≡_};
-ghost use mathlib.Core.Bool.{_&&_, _||_, cond};
-ghost use Prim.Native.Nat.{_+_, _^_, _≤_, _<_};
-ghost use lib.ListN.{length, getD};
+ghost use mathlib.Core.Bool.{_&&_, _||_};
+ghost use Prim.Native.Nat.{_≤_, _<_};
+ghost use lib.ListN.{getD};
 ghost use lib.Dec.{leb};
-ghost use Rattle.definitions.specs.Fields.{hasBit, numberAt, mapOf};
-ghost use Rattle.record.specs.Cursor.{TakenAt};
+ghost use Rattle.definitions.specs.Fields.{hasBit, mapOf, Layout, fieldAt, offsetOf};
+ghost use Rattle.record.specs.Cursor.{cursorMost, Numbered, Taken};
 
 // Whether both hold.
 pub fn both(a: bool, b: bool) -> bool
@@ -69,12 +80,14 @@ fn map_of(bytes: &[u8]) -> u16
     byte(bytes, 0) as u16 * 256 + byte(bytes, 1) as u16
 }
 
-// The big-endian number of some bytes.
+// The big-endian number of some bytes, 0 where one of them is missing.
 fn number(bytes: &[u8], at: usize, width: usize) -> u32
-    requires { ⌜ (at + width ≤ length (now bytes)) × (width ≤ 4) ⌝ }
-    ensures exact { λ r. ⌜ r ≡ numberAt (now (bytes .entry)) at width ⌝ }
-    ensures bounded { λ r. ⌜ r < 256 ^ width ⌝ }
+    requires { ⌜ (at ≤ cursorMost 16) × (width ≤ 4) ⌝ }
+    ensures { λ r. ⌜ Numbered (now (bytes .entry)) at width r ⌝ }
 {
+    if bytes.len() < at + width {
+        return 0;
+    }
     let mut sum: u32 = 0;
     for i in 0..width {
         sum = sum * 256 + bytes[at + i] as u32;
@@ -82,29 +95,18 @@ fn number(bytes: &[u8], at: usize, width: usize) -> u32
     sum
 }
 
-// The field of a map bit that is so many bytes wide, at the cursor.
-fn take_field(bytes: &[u8], map: u16, bit: usize, width: usize, at: usize) -> Field
-    requires { ⌜ (bit < 16) × (width ≤ 4) × (at + cond (hasBit map bit) width 0 ≤ length (now bytes)) ⌝ }
-    ensures { λ r. ⌜ TakenAt (now (bytes .entry)) map bit width at r ⌝ }
+// What a field of so many bytes holds at the cursor, if the map has its bit.
+fn take_field(bytes: &[u8], map: u16, bit: usize, field: Field, at: usize) -> Found
+    requires { ⌜ (bit < 16) × (field .head ≤ 4) × (field .unit ≤ 4) × (at ≤ cursorMost bit) ⌝ }
+    ensures { λ r. ⌜ ((layout : Layout) → fieldAt layout bit ≡ field → at ≡ offsetOf layout (now (bytes .entry)) map bit → Taken layout (now (bytes .entry)) map bit at r) ⌝ }
 {
     if present(map, bit) {
-        Field {
-            value: number(bytes, at, width),
-            next: at + width,
+        let value = number(bytes, at, field.head);
+        Found {
+            value,
+            next: at + field.head + field.unit * (value % 256) as usize,
         }
     } else {
-        Field { value: 0, next: at }
-    }
-}
-
-// A field of one byte at the cursor, 0 where its bit does not stand or the byte is missing.
-fn byte_field(bytes: &[u8], map: u16, bit: usize, at: usize) -> u8
-    requires { ⌜ bit < 16 ⌝ }
-    ensures { λ r. ⌜ r ≡ cond (hasBit map bit) (getD (now (bytes .entry)) at 0) 0 ⌝ }
-{
-    if present(map, bit) {
-        byte(bytes, at)
-    } else {
-        0
+        Found { value: 0, next: at }
     }
 }

@@ -1,13 +1,13 @@
 // The ticket reader: any bytes to a ticket, or 60 (R3.5).
 use crate::both;
-use crate::byte_field;
-use crate::field::Field;
+use crate::found::Found;
 use crate::map_of;
 use crate::present;
 use crate::take_field;
 use crate::ticket::blank_ticket;
 use definitions::Answer;
 use definitions::Error;
+use definitions::Field;
 use definitions::Origin;
 use definitions::Principal;
 use definitions::Reading;
@@ -15,17 +15,31 @@ use definitions::TRAIL_LIMIT;
 use definitions::Ticket;
 use definitions::Window;
 ghost use mathlib.Core.Path.{_≡_};
-ghost use mathlib.Core.Bool.{true, cond};
-ghost use mathlib.Core.List.{List};
+ghost use mathlib.Core.Bool.{true};
 ghost use Prim.Native.Nat.{ℕ, _+_, _≤_, _<_};
 ghost use lib.ListN.{length};
 ghost use Rattle.definitions.specs.Limits.{trailLimit};
-ghost use Rattle.definitions.specs.Fields.{hasBit, offsetOf};
-ghost use Rattle.record.specs.Cursor.{Taken};
-ghost use Rattle.definitions.specs.TicketRecords.{ticketLayout, knownMap, hopsOf, hopsFit, originAs, trailOf, readableAs, ticketAs, accepted, refused, readTicket};
+ghost use Rattle.definitions.specs.Fields.{offsetOf};
+ghost use Rattle.record.specs.Cursor.{cursorMost, Taken};
+ghost use Rattle.definitions.specs.TicketRecords.{ticketLayout, knownMap, hopsFit, originAs, trailOf, accepted, refused, readTicket};
 
-// The bytes of the field of each map bit (R3.2). Of the trail, bit 8, it is the count's; bits 9 and 10 have no bytes.
-pub const WIDTHS: [usize; 9] = [2, 4, 1, 1, 4, 4, 2, 2, 1];
+// How many fields a ticket's record has.
+pub const FIELDS: usize = 11;
+
+// Its fields, by map bit (R3.2).
+pub const LAYOUT: [Field; FIELDS] = [
+    Field { head: 2, unit: 0 }, // number
+    Field { head: 4, unit: 0 }, // flags
+    Field { head: 1, unit: 0 }, // client
+    Field { head: 1, unit: 0 }, // service
+    Field { head: 4, unit: 0 }, // start
+    Field { head: 4, unit: 0 }, // end
+    Field { head: 2, unit: 0 }, // TGT's number
+    Field { head: 2, unit: 0 }, // evidence's number
+    Field { head: 1, unit: 1 }, // trail
+    Field { head: 0, unit: 0 }, // barred mark
+    Field { head: 0, unit: 0 }, // self mark
+];
 
 // The reading of a ticket.
 pub(crate) fn accepted(ticket: Ticket) -> Reading
@@ -47,17 +61,13 @@ fn refused() -> Reading
     }
 }
 
-// The bytes of a record up to its trail, by its map; 0 where the map is no ticket's. They are sums of widths of the table above, which the proof
-// computes.
-pub(crate) fn fixed_length(map: u16) -> usize
-    ensures exact { λ r. ⌜ ((s : List ℕ) → r ≡ cond (knownMap map) (offsetOf ticketLayout s map 8) 0) ⌝ }
-    ensures bounded { λ r. ⌜ r ≤ 22 ⌝ }
+// Whether a map is one of the eight (R3.3).
+fn known_map(map: u16) -> bool
+    ensures { λ r. ⌜ r ≡ knownMap map ⌝ }
 {
     match map {
-        0x0037 | 0x0237 => 17,
-        0x007F | 0x027F | 0x047F | 0x067F => 20,
-        0x01FF | 0x03FF => 22,
-        _ => 0,
+        0x0037 | 0x007F | 0x01FF | 0x0237 | 0x027F | 0x03FF | 0x047F | 0x067F => true,
+        _ => false,
     }
 }
 
@@ -72,24 +82,12 @@ pub(crate) fn hops_fit(map: u16, hops: u8) -> bool
     }
 }
 
-// The bytes of the trail and its count.
-pub(crate) fn trail_length(map: u16, hops: u8) -> usize
-    ensures exact { λ r. ⌜ r ≡ cond (hasBit map 8) (1 + hops) 0 ⌝ }
-    ensures bounded { λ r. ⌜ r ≤ 256 ⌝ }
-{
-    if present(map, 8) {
-        1 + hops as usize
-    } else {
-        0
-    }
-}
-
 // The field of a map bit at the cursor.
-fn ticket_field(bytes: &[u8], map: u16, bit: usize, at: usize) -> Field
-    requires { ⌜ (bit < 8) × (at ≡ offsetOf ticketLayout (now bytes) map bit) × (readableAs (now bytes) map ≡ true) ⌝ }
-    ensures { λ r. ⌜ Taken ticketLayout (now (bytes .entry)) map bit r ⌝ }
+fn ticket_field(bytes: &[u8], map: u16, bit: usize, at: usize) -> Found
+    requires { ⌜ (bit < length ticketLayout) × (at ≡ offsetOf ticketLayout (now bytes) map bit) × (at ≤ cursorMost bit) ⌝ }
+    ensures { λ r. ⌜ Taken ticketLayout (now (bytes .entry)) map bit at r ⌝ }
 {
-    take_field(bytes, map, bit, WIDTHS[bit], at)
+    take_field(bytes, map, bit, LAYOUT[bit], at)
 }
 
 // The origin that a map stands for, with the back numbers of the record.
@@ -120,11 +118,14 @@ fn trail_of(bytes: &[u8], at: usize, hops: u8) -> [Principal; TRAIL_LIMIT]
     trail
 }
 
-// The ticket of a record whose length is right, front to back.
-fn ticket_as(bytes: &[u8], map: u16, hops: u8) -> Ticket
-    requires { ⌜ (readableAs (now bytes) map ≡ true) × (hops ≡ hopsOf (now bytes) map) ⌝ }
-    ensures { λ r. ⌜ r ≡ ticketAs (now (bytes .entry)) map ⌝ }
+// The ticket of a record, front to back, or 60.
+pub fn read_ticket(bytes: &[u8]) -> Reading
+    ensures { λ r. ⌜ r ≡ readTicket (now (bytes .entry)) ⌝ }
 {
+    let map = map_of(bytes);
+    if !known_map(map) {
+        return refused();
+    }
     let number = ticket_field(bytes, map, 0, 2);
     let flags = ticket_field(bytes, map, 1, number.next);
     let client = ticket_field(bytes, map, 2, flags.next);
@@ -133,8 +134,13 @@ fn ticket_as(bytes: &[u8], map: u16, hops: u8) -> Ticket
     let end = ticket_field(bytes, map, 5, start.next);
     let tgt = ticket_field(bytes, map, 6, end.next);
     let evidence = ticket_field(bytes, map, 7, tgt.next);
+    let accounts = ticket_field(bytes, map, 8, evidence.next);
+    let hops = accounts.value as u8;
+    if !both(hops_fit(map, hops), bytes.len() == accounts.next) {
+        return refused();
+    }
     let trail = trail_of(bytes, evidence.next + 1, hops);
-    Ticket {
+    accepted(Ticket {
         number: number.value as u16,
         flags: flags.value,
         client: client.value as u8,
@@ -147,23 +153,5 @@ fn ticket_as(bytes: &[u8], map: u16, hops: u8) -> Ticket
         trail,
         hops,
         barred: present(map, 9),
-    }
-}
-
-// The ticket of a record, or 60.
-pub fn read_ticket(bytes: &[u8]) -> Reading
-    ensures { λ r. ⌜ r ≡ readTicket (now (bytes .entry)) ⌝ }
-{
-    let map = map_of(bytes);
-    let fixed = fixed_length(map);
-    if fixed == 0 {
-        return refused();
-    }
-    let hops = byte_field(bytes, map, 8, fixed);
-    let length = fixed + trail_length(map, hops);
-    if both(hops_fit(map, hops), bytes.len() == length) {
-        accepted(ticket_as(bytes, map, hops))
-    } else {
-        refused()
-    }
+    })
 }

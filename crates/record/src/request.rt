@@ -1,11 +1,7 @@
 // The request reader: any bytes to a request, or 60 (R4.3).
 use crate::both;
-use crate::byte_field;
 use crate::errors::is_accepted;
-use crate::field::Counted;
-use crate::field::Field;
-use crate::field::Numbers;
-use crate::field::Parts;
+use crate::found::Found;
 use crate::map_of;
 use crate::present;
 use crate::reader::accepted;
@@ -14,19 +10,19 @@ use crate::take_field;
 use crate::ticket::blank_ticket;
 use definitions::Answer;
 use definitions::Error;
+use definitions::Field;
 use definitions::Kind;
 use definitions::Path;
 use definitions::Reading;
 use definitions::Request;
 use definitions::RequestReading;
 use definitions::Span;
-use definitions::Ticket;
 ghost use mathlib.Core.Path.{_≡_};
-ghost use mathlib.Core.List.{List};
-ghost use Prim.Native.Nat.{ℕ, _+_, _≤_, _<_};
+ghost use mathlib.Core.Bool.{cond};
+ghost use Prim.Native.Nat.{_+_, _≤_, _<_};
 ghost use lib.ListN.{length};
-ghost use Rattle.definitions.specs.Fields.{widthOf, offsetOf};
-ghost use Rattle.record.specs.Cursor.{Taken, NumbersTaken, SpanTaken, PartsTaken};
+ghost use Rattle.definitions.specs.Fields.{hasBit, mapOf, fieldAt, unitsSize, offsetOf, fieldOf};
+ghost use Rattle.record.specs.Cursor.{cursorMost, Taken};
 ghost use Rattle.definitions.specs.Requests.{requestLayout, mapFits, pathIf, pathOf, embeddedIn, hasTicket, refusedRequest, requestFor, readRequest};
 
 // The map bits that a request of each kind needs, and those that it may have (R4.2). There is no kind 0.
@@ -34,8 +30,17 @@ const NEEDED: [u16; 5] = [0, 0x41, 0x91, 0x51, 0xB3];
 
 const ALLOWED: [u16; 5] = [0, 0x4B, 0x9B, 0x5B, 0xBF];
 
-// The bytes of the field of each map bit (R4.1); of the tickets and the names, bits 4 to 7, they are the length byte's.
-const WIDTHS: [usize; 8] = [1, 4, 4, 4, 1, 1, 1, 1];
+// The fields of a request, by map bit (R4.1).
+const LAYOUT: [Field; 8] = [
+    Field { head: 1, unit: 0 }, // kind
+    Field { head: 4, unit: 0 }, // options
+    Field { head: 4, unit: 0 }, // PAC options
+    Field { head: 4, unit: 0 }, // till
+    Field { head: 1, unit: 1 }, // TGT
+    Field { head: 1, unit: 1 }, // evidence
+    Field { head: 1, unit: 1 }, // name of the user
+    Field { head: 1, unit: 1 }, // name of the service
+];
 
 // Whether a map has the bits that a kind needs, and none beyond those that it may have.
 fn map_fits(kind: usize, map: u16) -> bool
@@ -84,79 +89,28 @@ fn path_of(kind: u8, map: u16) -> Path
     }
 }
 
-// Where the numbers of a request end, by its map: the kind is 1 byte, options, PAC options and till are 4.
-fn numbers_end(map: u16) -> usize
-    ensures exact { λ r. ⌜ ((s : List ℕ) → r ≡ offsetOf requestLayout s map 4) ⌝ }
-    ensures bounded { λ r. ⌜ r ≤ 15 ⌝ }
+// The field of a map bit at the cursor.
+fn request_field(bytes: &[u8], map: u16, bit: usize, at: usize) -> Found
+    requires { ⌜ (bit < length requestLayout) × (at ≡ offsetOf requestLayout (now bytes) map bit) × (at ≤ cursorMost bit) ⌝ }
+    ensures { λ r. ⌜ Taken requestLayout (now (bytes .entry)) map bit at r ⌝ }
 {
-    let long = map / 2 % 2 + map / 4 % 2 + map / 8 % 2;
-    (2 + map % 2 + 4 * long) as usize
+    take_field(bytes, map, bit, LAYOUT[bit], at)
 }
 
-// The number of a map bit at the cursor.
-fn request_field(bytes: &[u8], map: u16, bit: usize, at: usize) -> Field
-    requires { ⌜ (bit < 4) × (at ≡ offsetOf requestLayout (now bytes) map bit) × (offsetOf requestLayout (now bytes) map 4 ≤ length (now bytes)) ⌝ }
-    ensures { λ r. ⌜ Taken requestLayout (now (bytes .entry)) map bit r ⌝ }
+// Where the bytes lie that a field at the cursor counts.
+fn span_at(map: u16, bit: usize, at: usize, count: u32) -> Span
+    requires { ⌜ (bit < length requestLayout) × (at ≤ cursorMost bit) ⌝ }
+    ensures { λ r. ⌜ r ≡ record { at = cond (hasBit map bit) (at + fieldAt requestLayout bit .head) 0; len = unitsSize (fieldAt requestLayout bit) count } ⌝ }
 {
-    take_field(bytes, map, bit, WIDTHS[bit], at)
-}
-
-// The numbers of a request, front to back.
-fn take_numbers(bytes: &[u8], map: u16) -> Numbers
-    requires { ⌜ offsetOf requestLayout (now bytes) map 4 ≤ length (now bytes) ⌝ }
-    ensures { λ r. ⌜ NumbersTaken (now (bytes .entry)) map r ⌝ }
-{
-    let kind = request_field(bytes, map, 0, 2);
-    let options = request_field(bytes, map, 1, kind.next);
-    let pac_options = request_field(bytes, map, 2, options.next);
-    let till = request_field(bytes, map, 3, pac_options.next);
-    Numbers {
-        kind: kind.value as u8,
-        options: options.value,
-        pac_options: pac_options.value,
-        till: till.value,
-        next: till.next,
-    }
-}
-
-// The counted field of a map bit at the cursor.
-fn take_counted(bytes: &[u8], map: u16, bit: usize, at: usize) -> Counted
-    requires { ⌜ (4 ≤ bit) × (bit < 8) × (widthOf requestLayout bit ≡ 1) × (at ≡ offsetOf requestLayout (now bytes) map bit) × (at ≤ 1024) ⌝ }
-    ensures { λ r. ⌜ SpanTaken (now (bytes .entry)) map bit at r ⌝ }
-{
-    let len = byte_field(bytes, map, bit, at) as usize;
+    let field = LAYOUT[bit];
+    let len = field.unit * (count % 256) as usize;
     if present(map, bit) {
-        Counted {
-            span: Span { at: at + 1, len },
-            next: at + 1 + len,
+        Span {
+            at: at + field.head,
+            len,
         }
     } else {
-        Counted {
-            span: Span { at: 0, len },
-            next: at,
-        }
-    }
-}
-
-// The tickets and names of a request, front to back.
-fn take_parts(bytes: &[u8], map: u16, at: usize) -> Parts
-    requires { ⌜ (at ≡ offsetOf requestLayout (now bytes) map 4) × (at ≤ 15) ⌝ }
-    ensures { λ r. ⌜ PartsTaken (now (bytes .entry)) map r ⌝ }
-{
-    let tgt = take_counted(bytes, map, 4, at);
-    let evidence = take_counted(bytes, map, 5, tgt.next);
-    let user = take_counted(bytes, map, 6, evidence.next);
-    let service = take_counted(bytes, map, 7, user.next);
-    let t = tgt.span;
-    let e = evidence.span;
-    let u = user.span;
-    let s = service.span;
-    Parts {
-        tgt: t,
-        evidence: e,
-        user: u,
-        service: s,
-        end: service.next,
+        Span { at: 0, len }
     }
 }
 
@@ -202,33 +156,49 @@ fn refused_request() -> RequestReading
     }
 }
 
-// The reading of a request whose parts lie within the bytes.
-fn with_parts(bytes: &[u8], map: u16, kind: Kind, n: Numbers, p: Parts) -> RequestReading
-    requires { ⌜ NumbersTaken (now bytes) map n × PartsTaken (now bytes) map p × (p .end ≡ length (now bytes)) ⌝ }
-    ensures { λ r. ⌜ r ≡ requestFor (now (bytes .entry)) map (Path.Decide kind) ⌝ }
+// The decision path that the first bytes pick, or the refusal.
+pub fn request_path(bytes: &[u8]) -> Path
+    ensures { λ r. ⌜ r ≡ pathOf (fieldOf requestLayout (now (bytes .entry)) (mapOf (now (bytes .entry))) 0) (mapOf (now (bytes .entry))) ⌝ }
 {
-    let t = p.tgt;
-    let e = p.evidence;
-    let tgt = embedded_in(bytes, map, 4, t);
-    let evidence = embedded_in(bytes, map, 5, e);
-    if !both(has_ticket(tgt), has_ticket(evidence)) {
+    let map = map_of(bytes);
+    let kind = request_field(bytes, map, 0, 2);
+    path_of(kind.value as u8, map)
+}
+
+// The request of the bytes on a decision path, front to back, or 60.
+pub fn read_rest(bytes: &[u8], kind: Kind) -> RequestReading
+    ensures { λ r. ⌜ r ≡ requestFor (now (bytes .entry)) (mapOf (now (bytes .entry))) (Path.Decide kind) ⌝ }
+{
+    let map = map_of(bytes);
+    let first = request_field(bytes, map, 0, 2);
+    let options = request_field(bytes, map, 1, first.next);
+    let pac_options = request_field(bytes, map, 2, options.next);
+    let till = request_field(bytes, map, 3, pac_options.next);
+    let tgt = request_field(bytes, map, 4, till.next);
+    let evidence = request_field(bytes, map, 5, tgt.next);
+    let user = request_field(bytes, map, 6, evidence.next);
+    let service = request_field(bytes, map, 7, user.next);
+    if bytes.len() != service.next {
         return refused_request();
     }
-    let t = tgt.ticket;
-    let e = evidence.ticket;
-    let user = p.user;
-    let service = p.service;
+    let t = embedded_in(bytes, map, 4, span_at(map, 4, till.next, tgt.value));
+    let e = embedded_in(bytes, map, 5, span_at(map, 5, tgt.next, evidence.value));
+    if !both(has_ticket(t), has_ticket(e)) {
+        return refused_request();
+    }
+    let t = t.ticket;
+    let e = e.ticket;
     RequestReading {
         answer: Answer::Accepted,
         request: Request {
             kind,
-            options: n.options,
-            pac_options: n.pac_options,
-            till: n.till,
+            options: options.value,
+            pac_options: pac_options.value,
+            till: till.value,
             tgt: t,
             evidence: e,
-            user,
-            service,
+            user: span_at(map, 6, evidence.next, user.value),
+            service: span_at(map, 7, user.next, service.value),
         },
     }
 }
@@ -237,19 +207,9 @@ fn with_parts(bytes: &[u8], map: u16, kind: Kind, n: Numbers, p: Parts) -> Reque
 pub fn read_request(bytes: &[u8]) -> RequestReading
     ensures { λ r. ⌜ r ≡ readRequest (now (bytes .entry)) ⌝ }
 {
-    let map = map_of(bytes);
-    if bytes.len() < numbers_end(map) {
-        return refused_request();
-    }
-    let numbers = take_numbers(bytes, map);
-    let path = path_of(numbers.kind, map);
+    let path = request_path(bytes);
     let Path::Decide(kind) = path else {
         return refused_request();
     };
-    let parts = take_parts(bytes, map, numbers.next);
-    if parts.end == bytes.len() {
-        with_parts(bytes, map, kind, numbers, parts)
-    } else {
-        refused_request()
-    }
+    read_rest(bytes, kind)
 }

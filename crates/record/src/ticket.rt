@@ -1,10 +1,16 @@
-// What a ticket value tells: the map and the back numbers of its origin; and the blank ticket (R3.2, R3.3).
+// What a ticket value tells: the map and the back numbers of its origin, and its trail as a word; and the blank ticket (R3.2, R3.3).
+use crate::packing::pack;
 use definitions::Origin;
+use definitions::Principal;
 use definitions::TRAIL_LIMIT;
 use definitions::Ticket;
 use definitions::Window;
 ghost use mathlib.Core.Path.{_≡_};
 ghost use Prim.Native.Nat.{_<_};
+ghost use lib.ListN.{length};
+ghost use Rattle.definitions.specs.Limits.{trailLimit, byteBits};
+ghost use Rattle.definitions.specs.Fields.{Bytes};
+ghost use Rattle.definitions.specs.Words.{packAt};
 ghost use Rattle.definitions.specs.TicketRecords.{originMap, tgtOf, evidenceOf, blankTicket};
 
 // The map of an origin, without the barred mark.
@@ -21,7 +27,7 @@ pub(crate) fn origin_map(origin: Origin) -> u16
 }
 
 // The number of the TGT that a ticket rests on, 0 of an initial ticket.
-pub(crate) fn tgt_of(origin: Origin) -> u16
+pub fn tgt_of(origin: Origin) -> u16
     ensures { λ r. ⌜ r ≡ tgtOf origin ⌝ }
 {
     match origin {
@@ -33,7 +39,7 @@ pub(crate) fn tgt_of(origin: Origin) -> u16
 }
 
 // The number of the evidence that a ticket rests on, 0 where there is none.
-pub(crate) fn evidence_of(origin: Origin) -> u16
+pub fn evidence_of(origin: Origin) -> u16
     ensures { λ r. ⌜ r ≡ evidenceOf origin ⌝ }
 {
     match origin {
@@ -42,6 +48,14 @@ pub(crate) fn evidence_of(origin: Origin) -> u16
         Origin::S4U2self(_) => 0,
         Origin::Delegated(_, evidence) => evidence,
     }
+}
+
+// The places of a trail as one word, the first in its lowest byte.
+pub fn trail_word(trail: [Principal; TRAIL_LIMIT]) -> u64
+    ensures exact { λ r. ⌜ r ≡ packAt byteBits trail 0 trailLimit ⌝ }
+    ensures places { λ _. ⌜ (trailLimit ≡ length trail) × Bytes trail ⌝ }
+{
+    pack(&trail, 0)
 }
 
 // The ticket that stands where there is none.

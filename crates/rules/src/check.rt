@@ -1,9 +1,6 @@
 // The checks of a request, in the order of R6.2; each function answers the first that fails.
 use crate::accounts::is_enabled;
 use crate::accounts::is_service;
-use crate::routes::is_permitted;
-use crate::words::AccountWords;
-use crate::words::account_at;
 use definitions::Account;
 use definitions::Answer;
 use definitions::Error;
@@ -11,19 +8,18 @@ use definitions::Held;
 use definitions::LONGEST_RECORD;
 use definitions::Moment;
 use definitions::Origin;
-use definitions::Request;
+use definitions::Principal;
 use definitions::TICKET_LIMIT;
 use definitions::TRAIL_LIMIT;
 use definitions::Ticket;
 use definitions::Window;
 use record::both;
+use record::is_accepted;
 ghost use mathlib.Core.Bool.{not, cond};
 ghost use mathlib.Core.Path.{_≡_};
-ghost use mathlib.Core.List.{_∷_, _++_};
 ghost use Rattle.definitions.specs.Checks.{andThen, judge};
 ghost use Rattle.definitions.specs.Validity.{notYet, ended};
-ghost use Rattle.definitions.specs.AccountWords.{tableOf};
-ghost use Rattle.definitions.specs.Decisions.{isInitial, isHeld, roomCheck, tgtChecks, evidenceChecks, serviceCheck, userChecks, hopChecks, lastChecks};
+ghost use Rattle.definitions.specs.Decisions.{isInitial, isHeld, openingChecks, tgtChecks, evidenceChecks, serviceCheck, userChecks, hopChecks, lastChecks};
 
 // What comes after a check that holds, or its refusal.
 pub(crate) fn unless(holds: bool, error: Error, rest: Answer) -> Answer
@@ -32,14 +28,19 @@ pub(crate) fn unless(holds: bool, error: Error, rest: Answer) -> Answer
     if holds { rest } else { Answer::Refused(error) }
 }
 
-// The first refusal of two answers.
-pub(crate) fn and_then(first: Answer, second: Answer) -> Answer
-    ensures { λ r. ⌜ r ≡ andThen first second ⌝ }
+// The checks before the kind matters: 60, by what the reader answered; 52.
+pub fn check_opening(reading: Answer, room: usize) -> Answer
+    ensures { λ r. ⌜ r ≡ judge (openingChecks reading room) ⌝ }
 {
-    match first {
-        Answer::Accepted => second,
-        Answer::Refused(error) => Answer::Refused(error),
-    }
+    unless(
+        is_accepted(reading),
+        Error::KRB_ERR_GENERIC,
+        unless(
+            LONGEST_RECORD <= room,
+            Error::KRB_ERR_RESPONSE_TOO_BIG,
+            Answer::Accepted,
+        ),
+    )
 }
 
 // Whether a ticket is initial, by its origin.
@@ -80,55 +81,48 @@ fn check_window(window: Window, clock: u32, rest: Answer) -> Answer
     }
 }
 
-// The checks of the output and the TGT: 52; 41; 35; 33 and 32; 18.
-pub(crate) fn check_tgt(words: &AccountWords, moment: Moment, tgt: Ticket, held: Held) -> Answer
-    ensures { λ r. ⌜ r ≡ judge (roomCheck moment ∷ tgtChecks (tableOf (now (words .entry))) moment tgt held) ⌝ }
+// The checks of the TGT: 41; 35; 33 and 32; 18.
+pub(crate) fn check_tgt(clock: u32, tgt: Ticket, held: Held, client: Account) -> Answer
+    ensures { λ r. ⌜ r ≡ judge (tgtChecks clock (record { ticket = tgt; held = held; client = client })) ⌝ }
 {
     let origin = tgt.origin;
     let window = tgt.window;
-    let client = account_at(words, tgt.client as usize);
     let last = unless(
         is_enabled(client),
         Error::KDC_ERR_CLIENT_REVOKED,
         Answer::Accepted,
     );
-    let times = check_window(window, moment.clock, last);
-    let kept = unless(
+    let times = check_window(window, clock, last);
+    unless(
         is_held(held, tgt),
         Error::KRB_AP_ERR_MODIFIED,
         unless(is_initial(origin), Error::KRB_AP_ERR_NOT_US, times),
-    );
-    unless(
-        LONGEST_RECORD <= moment.room,
-        Error::KRB_ERR_RESPONSE_TOO_BIG,
-        kept,
     )
 }
 
-// The checks of the evidence: 41; 33 and 32; 26; 18.
+// The checks of the evidence: 41; 33 and 32; 26; 18. Service 1 has this number.
 pub(crate) fn check_evidence(
-    words: &AccountWords,
-    moment: Moment,
+    clock: u32,
     evidence: Ticket,
     held: Held,
-    tgt: Ticket,
+    client: Account,
+    number1: Principal,
 ) -> Answer
-    ensures { λ r. ⌜ r ≡ judge (evidenceChecks (tableOf (now (words .entry))) moment evidence held tgt) ⌝ }
+    ensures { λ r. ⌜ r ≡ judge (evidenceChecks clock (record { ticket = evidence; held = held; client = client }) number1) ⌝ }
 {
     let origin = evidence.origin;
     let window = evidence.window;
-    let client = account_at(words, evidence.client as usize);
     let last = unless(
         is_enabled(client),
         Error::KDC_ERR_CLIENT_REVOKED,
         Answer::Accepted,
     );
     let matched = unless(
-        both(!is_initial(origin), evidence.service == tgt.client),
+        both(!is_initial(origin), evidence.service == number1),
         Error::KDC_ERR_SERVER_NOMATCH,
         last,
     );
-    let times = check_window(window, moment.clock, matched);
+    let times = check_window(window, clock, matched);
     unless(is_held(held, evidence), Error::KRB_AP_ERR_MODIFIED, times)
 }
 
@@ -154,6 +148,21 @@ pub(crate) fn check_service(service: Account, rest: Answer) -> Answer
     )
 }
 
+// The checks of a hop: 13, 61; then what comes after them.
+pub(crate) fn check_hop(permitted: bool, evidence: Ticket, rest: Answer) -> Answer
+    ensures { λ r. ⌜ r ≡ andThen (judge (hopChecks permitted evidence)) rest ⌝ }
+{
+    unless(
+        permitted,
+        Error::KDC_ERR_BADOPTION,
+        unless(
+            (evidence.hops as usize) < TRAIL_LIMIT,
+            Error::KRB_ERR_FIELD_TOOLONG,
+            rest,
+        ),
+    )
+}
+
 // The last checks: 11, 29.
 pub(crate) fn check_last(moment: Moment, window: Window) -> Answer
     ensures { λ r. ⌜ r ≡ judge (lastChecks moment window) ⌝ }
@@ -165,29 +174,6 @@ pub(crate) fn check_last(moment: Moment, window: Window) -> Answer
             moment.count < TICKET_LIMIT,
             Error::KDC_ERR_SVC_UNAVAILABLE,
             Answer::Accepted,
-        ),
-    )
-}
-
-// The checks of a hop and the last ones: 13, 61; 11, 29.
-pub(crate) fn check_hop(
-    request: Request,
-    moment: Moment,
-    first: Account,
-    second: Account,
-    number: usize,
-    window: Window,
-) -> Answer
-    ensures { λ r. ⌜ r ≡ judge (hopChecks first second request (request .tgt) (request .evidence) number ++ lastChecks moment window) ⌝ }
-{
-    let evidence = request.evidence;
-    unless(
-        is_permitted(request, first, second, number),
-        Error::KDC_ERR_BADOPTION,
-        unless(
-            (evidence.hops as usize) < TRAIL_LIMIT,
-            Error::KRB_ERR_FIELD_TOOLONG,
-            check_last(moment, window),
         ),
     )
 }

@@ -1,6 +1,6 @@
-// The four decisions: which ticket a request is given, or which number refuses it (R5.4 to R5.8, R6.2).
+// The four decisions: which ticket a request is given, or which number refuses it (R5.4 to R5.8, R6.2). Each goes by stages: the tickets that are
+// presented, then the name, then the rest (specs/Stages.antt).
 use crate::accounts::is_service;
-use crate::check::and_then;
 use crate::check::check_evidence;
 use crate::check::check_hop;
 use crate::check::check_last;
@@ -9,6 +9,10 @@ use crate::check::check_tgt;
 use crate::check::check_user;
 use crate::check::unless;
 use crate::name::find_name;
+use crate::options::asks_forwardable;
+use crate::options::has_cname_in_addl_tkt;
+use crate::options::is_resource_based;
+use crate::routes::is_permitted;
 use crate::tickets::direct_ticket;
 use crate::tickets::initial_ticket;
 use crate::tickets::s4u2proxy_ticket;
@@ -24,22 +28,19 @@ use definitions::Decision;
 use definitions::Error;
 use definitions::Held;
 use definitions::Kind;
-use definitions::LONGEST_RECORD;
 use definitions::Moment;
+use definitions::Named;
+use definitions::Principal;
 use definitions::Request;
 use definitions::Span;
 use definitions::Ticket;
-use definitions::Window;
 use record::is_accepted;
+use record::name_in;
 ghost use mathlib.Core.Path.{_≡_};
-ghost use mathlib.Core.List.{_∷_, _++_};
-ghost use Prim.Native.Nat.{_≤_};
-ghost use Rattle.definitions.specs.Limits.{accountLimit, longestRecord};
 ghost use Rattle.definitions.specs.Requests.{partOf};
-ghost use Rattle.definitions.specs.Checks.{judge};
 ghost use Rattle.definitions.specs.AccountWords.{tableOf};
-ghost use Rattle.definitions.specs.Names.{findName};
-ghost use Rattle.definitions.specs.Decisions.{roomCheck, tgtChecks, evidenceChecks, refuse, grant, userOf, serviceOf, decideInitial, decideDirect, decideS4U2self, decideS4U2proxy, decide};
+ghost use Rattle.definitions.specs.Decisions.{refuse, grant, past, named, presented, decideInitial, decideDirect, decideS4U2self, decideS4U2proxy, decide};
+ghost use Rattle.rules.specs.Stages.{finishDirect, finishS4U2self, finishS4U2proxy};
 
 // An answer that is a refusal, with a blank ticket beside it.
 pub fn refuse(answer: Answer) -> Decision
@@ -51,146 +52,132 @@ pub fn refuse(answer: Answer) -> Decision
     }
 }
 
-// A grant.
-fn grant(ticket: Ticket) -> Decision
-    ensures { λ r. ⌜ r ≡ grant ticket ⌝ }
+// The ticket where an answer is no refusal, else the refusal.
+fn conclude(answer: Answer, ticket: Ticket) -> Decision
+    ensures { λ r. ⌜ r ≡ past answer (grant ticket) ⌝ }
 {
-    Decision {
-        answer: Answer::Accepted,
-        ticket,
+    match answer {
+        Answer::Accepted => Decision {
+            answer: Answer::Accepted,
+            ticket,
+        },
+        Answer::Refused(error) => refuse(Answer::Refused(error)),
     }
 }
 
-// The account that a name in the request's bytes stands for.
-fn find_part(words: &AccountWords, bytes: &[u8], span: Span) -> usize
-    ensures exact { λ r. ⌜ r ≡ findName (tableOf (now (words .entry))) (partOf (now (bytes .entry)) span) ⌝ }
-    ensures bounded { λ r. ⌜ r ≤ accountLimit ⌝ }
+// The account that a name in the request's bytes stands for, with its number.
+fn find_named(words: &AccountWords, bytes: &[u8], span: Span) -> Named
+    ensures { λ r. ⌜ r ≡ named (tableOf (now (words .entry))) (partOf (now (bytes .entry)) span) ⌝ }
 {
-    let at = span.at;
-    let len = span.len;
-    let end = bytes.len();
-    if end <= at {
-        return find_name(words, &bytes[end..]);
-    }
-    if len < end - at {
-        let to = at + len;
-        find_name(words, &bytes[at..to])
-    } else {
-        find_name(words, &bytes[at..])
+    let number = find_name(words, name_in(bytes, span));
+    Named {
+        number: number as Principal,
+        account: account_at(words, number),
     }
 }
 
-// Kind 1 for a user, once the output is found long enough.
-fn finish_initial(words: &AccountWords, request: Request, moment: Moment, number: usize) -> Decision
-    requires { ⌜ (number ≤ accountLimit) × (longestRecord ≤ moment .room) ⌝ }
-    ensures { λ r. ⌜ r ≡ decideInitial (tableOf (now (words .entry))) request moment number ⌝ }
+// Kind 1 for a user.
+fn decide_initial(moment: Moment, asked: bool, till: u32, user: Named) -> Decision
+    ensures { λ r. ⌜ r ≡ decideInitial moment asked till user ⌝ }
 {
-    let user = account_at(words, number);
-    let window = initial_window(moment, request, user);
-    let answer = check_user(user, check_last(moment, window));
-    if is_accepted(answer) {
-        grant(initial_ticket(moment, request, number, user, window))
-    } else {
-        refuse(answer)
-    }
+    let account = user.account;
+    let window = initial_window(moment.clock, account.lifetime, till);
+    let answer = check_user(account, check_last(moment, window));
+    conclude(answer, initial_ticket(moment.next, asked, user, window))
 }
 
 // Kind 2 to a service, once the TGT is found good.
-fn finish_direct(words: &AccountWords, request: Request, moment: Moment, number: usize) -> Decision
-    requires { ⌜ number ≤ accountLimit ⌝ }
-    ensures { λ r. ⌜ ((h : Held) → judge (roomCheck moment ∷ tgtChecks (tableOf (now (words .entry))) moment (request .tgt) h) ≡ Answer.Accepted → r ≡ decideDirect (tableOf (now (words .entry))) request h moment number) ⌝ }
+fn finish_direct(
+    moment: Moment,
+    asked: bool,
+    till: u32,
+    tgt: Ticket,
+    client: Account,
+    service: Named,
+) -> Decision
+    ensures { λ r. ⌜ r ≡ finishDirect moment asked till tgt client service ⌝ }
 {
-    let tgt = request.tgt;
-    let service = account_at(words, number);
-    let window = grant_window(moment, request, service, tgt);
-    let answer = check_service(service, check_last(moment, window));
-    if is_accepted(answer) {
-        let client = account_at(words, tgt.client as usize);
-        grant(direct_ticket(moment, request, number, client, window))
-    } else {
-        refuse(answer)
-    }
+    let account = service.account;
+    let shown = tgt.window;
+    let window = grant_window(moment.clock, account.lifetime, till, shown.end);
+    let answer = check_service(account, check_last(moment, window));
+    conclude(
+        answer,
+        direct_ticket(moment.next, asked, tgt, client, service.number, window),
+    )
 }
 
 // Kind 3 for a user, once the TGT is found good.
 fn finish_s4u2self(
-    words: &AccountWords,
-    request: Request,
     moment: Moment,
-    number: usize,
+    asked: bool,
+    till: u32,
+    tgt: Ticket,
+    service1: Account,
+    user: Named,
 ) -> Decision
-    requires { ⌜ number ≤ accountLimit ⌝ }
-    ensures { λ r. ⌜ ((h : Held) → judge (roomCheck moment ∷ tgtChecks (tableOf (now (words .entry))) moment (request .tgt) h) ≡ Answer.Accepted → r ≡ decideS4U2self (tableOf (now (words .entry))) request h moment number) ⌝ }
+    ensures { λ r. ⌜ r ≡ finishS4U2self moment asked till tgt service1 user ⌝ }
 {
-    let tgt = request.tgt;
-    let service = account_at(words, tgt.client as usize);
-    let user = account_at(words, number);
-    let window = grant_window(moment, request, service, tgt);
-    let rest = check_user(user, check_last(moment, window));
+    let account = user.account;
+    let shown = tgt.window;
+    let window = grant_window(moment.clock, service1.lifetime, till, shown.end);
+    let rest = check_user(account, check_last(moment, window));
     let answer = unless(
-        is_service(service),
+        is_service(service1),
         Error::KDC_ERR_S_PRINCIPAL_UNKNOWN,
         rest,
     );
-    if is_accepted(answer) {
-        grant(s4u2self_ticket(moment, request, number, user, service, window))
-    } else {
-        refuse(answer)
-    }
+    conclude(
+        answer,
+        s4u2self_ticket(moment.next, asked, tgt, service1, user, window),
+    )
 }
 
-// Kind 4 to a service, once the TGT and the evidence are found good.
+// Kind 4 to a service, once the TGT and the evidence are found good; whether the hop is permitted is given.
 fn finish_s4u2proxy(
-    words: &AccountWords,
-    request: Request,
     moment: Moment,
-    number: usize,
+    permitted: bool,
+    till: u32,
+    tgt: Ticket,
+    evidence: Ticket,
+    service2: Named,
 ) -> Decision
-    requires { ⌜ number ≤ accountLimit ⌝ }
-    ensures { λ r. ⌜ ((h k : Held) → judge ((roomCheck moment ∷ tgtChecks (tableOf (now (words .entry))) moment (request .tgt) h) ++ evidenceChecks (tableOf (now (words .entry))) moment (request .evidence) k (request .tgt)) ≡ Answer.Accepted → r ≡ decideS4U2proxy (tableOf (now (words .entry))) request h k moment number) ⌝ }
+    ensures { λ r. ⌜ r ≡ finishS4U2proxy moment permitted till tgt evidence service2 ⌝ }
 {
-    let tgt = request.tgt;
-    let evidence = request.evidence;
-    let first = account_at(words, tgt.client as usize);
-    let second = account_at(words, number);
-    let window = hop_window(moment, request, second, tgt, evidence);
-    let answer = check_service(
-        second,
-        check_hop(request, moment, first, second, number, window),
-    );
+    let account = service2.account;
+    let v = tgt.window;
+    let w = evidence.window;
+    let window = hop_window(moment.clock, account.lifetime, till, v.end, w.end);
+    let rest = check_hop(permitted, evidence, check_last(moment, window));
+    let answer = check_service(account, rest);
     if is_accepted(answer) {
-        grant(s4u2proxy_ticket(moment, tgt, evidence, number, window))
+        conclude(
+            answer,
+            s4u2proxy_ticket(moment.next, tgt, evidence, service2.number, window),
+        )
     } else {
         refuse(answer)
     }
-}
-
-// Kind 1.
-fn decide_initial(words: &AccountWords, bytes: &[u8], request: Request, moment: Moment) -> Decision
-    ensures { λ r. ⌜ r ≡ decideInitial (tableOf (now (words .entry))) request moment (userOf (tableOf (now (words .entry))) (now (bytes .entry)) request) ⌝ }
-{
-    if moment.room < LONGEST_RECORD {
-        return refuse(Answer::Refused(Error::KRB_ERR_RESPONSE_TOO_BIG));
-    }
-    let span = request.user;
-    finish_initial(words, request, moment, find_part(words, bytes, span))
 }
 
 // Kind 2.
 fn decide_direct(
     words: &AccountWords,
     bytes: &[u8],
-    request: Request,
-    tgt: Held,
     moment: Moment,
+    asked: bool,
+    till: u32,
+    tgt: Ticket,
+    held: Held,
+    service: Span,
 ) -> Decision
-    ensures { λ r. ⌜ r ≡ decideDirect (tableOf (now (words .entry))) request tgt moment (serviceOf (tableOf (now (words .entry))) (now (bytes .entry)) request) ⌝ }
+    ensures { λ r. ⌜ r ≡ decideDirect moment asked till (presented (tableOf (now (words .entry))) held tgt) (named (tableOf (now (words .entry))) (partOf (now (bytes .entry)) service)) ⌝ }
 {
-    let presented = request.tgt;
-    let span = request.service;
-    let answer = check_tgt(words, moment, presented, tgt);
+    let client = account_at(words, tgt.client as usize);
+    let answer = check_tgt(moment.clock, tgt, held, client);
     if is_accepted(answer) {
-        finish_direct(words, request, moment, find_part(words, bytes, span))
+        let named = find_named(words, bytes, service);
+        finish_direct(moment, asked, till, tgt, client, named)
     } else {
         refuse(answer)
     }
@@ -200,17 +187,20 @@ fn decide_direct(
 fn decide_s4u2self(
     words: &AccountWords,
     bytes: &[u8],
-    request: Request,
-    tgt: Held,
     moment: Moment,
+    asked: bool,
+    till: u32,
+    tgt: Ticket,
+    held: Held,
+    user: Span,
 ) -> Decision
-    ensures { λ r. ⌜ r ≡ decideS4U2self (tableOf (now (words .entry))) request tgt moment (userOf (tableOf (now (words .entry))) (now (bytes .entry)) request) ⌝ }
+    ensures { λ r. ⌜ r ≡ decideS4U2self moment asked till (presented (tableOf (now (words .entry))) held tgt) (named (tableOf (now (words .entry))) (partOf (now (bytes .entry)) user)) ⌝ }
 {
-    let presented = request.tgt;
-    let span = request.user;
-    let answer = check_tgt(words, moment, presented, tgt);
+    let service1 = account_at(words, tgt.client as usize);
+    let answer = check_tgt(moment.clock, tgt, held, service1);
     if is_accepted(answer) {
-        finish_s4u2self(words, request, moment, find_part(words, bytes, span))
+        let named = find_named(words, bytes, user);
+        finish_s4u2self(moment, asked, till, tgt, service1, named)
     } else {
         refuse(answer)
     }
@@ -220,42 +210,76 @@ fn decide_s4u2self(
 fn decide_s4u2proxy(
     words: &AccountWords,
     bytes: &[u8],
-    request: Request,
-    tgt: Held,
-    evidence: Held,
     moment: Moment,
+    cname: bool,
+    resource: bool,
+    till: u32,
+    tgt: Ticket,
+    tgt_held: Held,
+    evidence: Ticket,
+    evidence_held: Held,
+    service: Span,
 ) -> Decision
-    ensures { λ r. ⌜ r ≡ decideS4U2proxy (tableOf (now (words .entry))) request tgt evidence moment (serviceOf (tableOf (now (words .entry))) (now (bytes .entry)) request) ⌝ }
+    ensures { λ r. ⌜ r ≡ decideS4U2proxy moment cname resource till (presented (tableOf (now (words .entry))) «tgt_held» tgt) (presented (tableOf (now (words .entry))) «evidence_held» evidence) (named (tableOf (now (words .entry))) (partOf (now (bytes .entry)) service)) ⌝ }
 {
-    let presented = request.tgt;
-    let beside = request.evidence;
-    let span = request.service;
-    let first = check_tgt(words, moment, presented, tgt);
-    let second = check_evidence(words, moment, beside, evidence, presented);
-    let answer = and_then(first, second);
-    if is_accepted(answer) {
-        finish_s4u2proxy(words, request, moment, find_part(words, bytes, span))
-    } else {
-        refuse(answer)
+    let service1 = account_at(words, tgt.client as usize);
+    let first = check_tgt(moment.clock, tgt, tgt_held, service1);
+    if !is_accepted(first) {
+        return refuse(first);
     }
+    let client = account_at(words, evidence.client as usize);
+    let second = check_evidence(moment.clock, evidence, evidence_held, client, tgt.client);
+    if !is_accepted(second) {
+        return refuse(second);
+    }
+    let service2 = find_named(words, bytes, service);
+    let account = service2.account;
+    let permitted = is_permitted(
+        service1,
+        account,
+        cname,
+        resource,
+        tgt.client,
+        evidence,
+        service2.number,
+    );
+    finish_s4u2proxy(moment, permitted, till, tgt, evidence, service2)
 }
 
-// What a request is answered, given the accounts, the request's bytes, and what the ledger holds at the numbers of its TGT and its evidence.
+// What a readable request is answered, given the accounts, the request's bytes, and what the ledger holds at the numbers of its TGT and its evidence.
 pub fn decide(
     words: &AccountWords,
     bytes: &[u8],
     request: Request,
-    tgt: Held,
-    evidence: Held,
+    tgt_held: Held,
+    evidence_held: Held,
     moment: Moment,
 ) -> Decision
-    ensures { λ r. ⌜ r ≡ decide (tableOf (now (words .entry))) (now (bytes .entry)) request tgt evidence moment ⌝ }
+    ensures { λ r. ⌜ r ≡ decide (tableOf (now (words .entry))) (now (bytes .entry)) request «tgt_held» «evidence_held» moment ⌝ }
 {
     let kind = request.kind;
+    let tgt = request.tgt;
+    let evidence = request.evidence;
+    let user = request.user;
+    let service = request.service;
+    let till = request.till;
+    let asked = asks_forwardable(request.options);
     match kind {
-        Kind::Initial => decide_initial(words, bytes, request, moment),
-        Kind::Direct => decide_direct(words, bytes, request, tgt, moment),
-        Kind::S4U2self => decide_s4u2self(words, bytes, request, tgt, moment),
-        Kind::S4U2proxy => decide_s4u2proxy(words, bytes, request, tgt, evidence, moment),
+        Kind::Initial => decide_initial(moment, asked, till, find_named(words, bytes, user)),
+        Kind::Direct => decide_direct(words, bytes, moment, asked, till, tgt, tgt_held, service),
+        Kind::S4U2self => decide_s4u2self(words, bytes, moment, asked, till, tgt, tgt_held, user),
+        Kind::S4U2proxy => decide_s4u2proxy(
+            words,
+            bytes,
+            moment,
+            has_cname_in_addl_tkt(request.options),
+            is_resource_based(request.pac_options),
+            till,
+            tgt,
+            tgt_held,
+            evidence,
+            evidence_held,
+            service,
+        ),
     }
 }

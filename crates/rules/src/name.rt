@@ -1,49 +1,22 @@
-// Names: which are good, which match, and which account a name stands for (R2.5 to R2.7).
+// Which account a name stands for (R2.6, R2.7). Names come as words; bytes are not seen here.
+use crate::trace::Piece;
 use crate::trace::Trace;
 use crate::words::AccountWords;
-use crate::words::byte_at;
 use crate::words::length_at;
-use crate::words::pack;
-use crate::words::set_length;
+use crate::words::row_word;
 use definitions::ACCOUNT_LIMIT;
-use definitions::ROW_SIZE;
+use definitions::Name;
 use record::both;
+use record::set_length;
 ghost use mathlib.Core.Path.{_≡_};
-ghost use mathlib.Core.Bool.{true, false};
-ghost use mathlib.Core.List.{List};
-ghost use Prim.Native.Nat.{ℕ, _+_, _*_, _<_, _≤_};
-ghost use lib.ListN.{length, getD};
+ghost use mathlib.Core.Bool.{Bool, true, false};
+ghost use Prim.Native.Nat.{_<_, _≤_};
 ghost use lib.Dec.{eqb};
-ghost use lib.Bits.{bitAnd};
-ghost use Rattle.definitions.specs.Limits.{accountLimit, nameLimit, rowSize, accountsSize};
-ghost use Rattle.definitions.specs.Fields.{Bytes};
-ghost use Rattle.definitions.specs.AccountWords.{tableOf, nameAt};
-ghost use Rattle.definitions.specs.Names.{goodByte, goodName, lower, folded, agree, findName, nameTaken};
-ghost use Rattle.rules.specs.Traces.{hasName, lowsFrom, traceOf};
-
-// Whether a byte may stand in a name.
-fn good_byte(c: u8) -> bool
-    ensures { λ r. ⌜ r ≡ goodByte c ⌝ }
-{
-    both(0x21 <= c, both(c <= 0x7E, c != 0x40))
-}
-
-// Whether a name is good: not empty, not too long, all bytes good.
-pub(crate) fn good_name(name: &[u8]) -> bool
-    ensures { λ r. ⌜ r ≡ goodName (now (name .entry)) ⌝ }
-{
-    if !set_length(name.len()) {
-        return false;
-    }
-    let mut i = 0;
-    while i < name.len() {
-        if !good_byte(name[i]) {
-            return false;
-        }
-        i += 1;
-    }
-    true
-}
+ghost use Rattle.definitions.specs.Limits.{accountLimit, byteBits};
+ghost use Rattle.definitions.specs.AccountWords.{tableOf};
+ghost use Rattle.definitions.specs.Words.{laneOf};
+ghost use Rattle.definitions.specs.Names.{lower, folded, findName, nameTaken};
+ghost use Rattle.rules.specs.Traces.{hasName, bytesOf, sameBytes, lows, countFrom, pieceOf, traceOf, nameIn, firstFrom};
 
 // A capital letter as the small one, any other byte as itself.
 fn lower(c: u8) -> u8
@@ -73,120 +46,156 @@ fn same_byte(ignore: bool, a: u8, b: u8) -> bool
     folded(ignore, a) == folded(ignore, b)
 }
 
-// Whether the bytes of a row's name and of another of its length agree, from the last one on.
-fn agree(words: &AccountWords, n: usize, ignore: bool, name: &[u8]) -> bool
-    requires { ⌜ (n < accountLimit) × (length (now name) ≤ nameLimit) ⌝ }
-    ensures { λ r. ⌜ r ≡ agree ignore (nameAt (now (words .entry)) (rowSize * n) (length (now (name .entry)))) (now (name .entry)) (length (now (name .entry))) ⌝ }
+// A byte of a word.
+fn byte_of(word: u64, k: usize) -> u8
+    requires { ⌜ k < 8 ⌝ }
+    ensures { λ r. ⌜ r ≡ laneOf byteBits word k ⌝ }
 {
-    let mut i = name.len();
+    ((word >> (8 * k)) % 256) as u8
+}
+
+// Whether the first bytes of two words agree, from the last one on.
+fn same_bytes(ignore: bool, a: u64, b: u64, count: usize) -> bool
+    requires { ⌜ count ≤ 8 ⌝ }
+    ensures { λ r. ⌜ r ≡ sameBytes ignore a b count ⌝ }
+{
+    let mut i = count;
     while 0 < i {
         i -= 1;
-        if !same_byte(ignore, byte_at(words, n, i), name[i]) {
+        if !same_byte(ignore, byte_of(a, i), byte_of(b, i)) {
             return false;
         }
     }
     true
 }
 
-// Whether a row is set and has a name, with letter case ignored or not. The length is looked at first.
-pub(crate) fn has_name(words: &AccountWords, n: usize, ignore: bool, name: &[u8]) -> bool
-    ensures { λ r. ⌜ r ≡ hasName (now (words .entry)) n ignore (now (name .entry)) ⌝ }
+// Whether a word may agree with a word of a name: the low five bits of each byte, which letter case leaves alone, are the same.
+fn may_agree(word: u64, p: Piece) -> bool
+    requires { ⌜ p .mask ≡ lows (p .count) ⌝ }
+    ensures { λ r. ⌜ ((f : Bool) → r ≡ false → sameBytes f word (p .word) (p .count) ≡ false) ⌝ }
 {
-    if ACCOUNT_LIMIT <= n {
-        return false;
-    }
-    if length_at(words, n) != name.len() {
-        return false;
-    }
-    if !set_length(name.len()) {
-        return false;
-    }
-    agree(words, n, ignore, name)
+    word & p.mask == p.word & p.mask
 }
 
-// The low five bits of each of eight bytes, which letter case leaves alone.
+// Whether a word agrees with a word of a name. Few that may agree come to the bytes: most are equal.
+fn same_word(ignore: bool, word: u64, p: Piece) -> bool
+    requires { ⌜ p .count ≤ 8 ⌝ }
+    ensures { λ r. ⌜ r ≡ sameBytes ignore word (p .word) (p .count) ⌝ }
+{
+    if word == p.word {
+        return true;
+    }
+    same_bytes(ignore, word, p.word, p.count)
+}
+
+// The low five bits of each of eight bytes.
 const LOWS: u64 = 0x1F1F1F1F1F1F1F1F;
 
-// The mask for those bytes of a name of a length that lie in the word from a position on.
-fn mask_from(length: usize, from: usize) -> u64
-    ensures { λ r. ⌜ r ≡ lowsFrom length from ⌝ }
+// How many of so many bytes lie in the word from a position on.
+fn count_from(length: usize, from: usize) -> usize
+    ensures { λ r. ⌜ r ≡ countFrom length from ⌝ }
 {
     if length <= from {
         return 0;
     }
-    let rest = length - from;
-    if rest < 8 {
-        LOWS >> (64 - 8 * rest)
+    if length - from < 8 { length - from } else { 8 }
+}
+
+// The mask of the low five bits of some bytes.
+fn mask_of(count: usize) -> u64
+    requires { ⌜ count ≤ 8 ⌝ }
+    ensures { λ r. ⌜ r ≡ lows count ⌝ }
+{
+    if count == 0 {
+        0
     } else {
-        LOWS
+        LOWS >> (64 - 8 * count)
+    }
+}
+
+// A word of a name of a length, from a position on.
+fn piece_of(word: u64, length: usize, from: usize) -> Piece
+    ensures { λ r. ⌜ r ≡ pieceOf word (countFrom length from) ⌝ }
+{
+    let count = count_from(length, from);
+    Piece {
+        word,
+        count,
+        mask: mask_of(count),
     }
 }
 
 // The trace of a name.
-fn trace_of(name: &[u8]) -> Trace
-    ensures { λ r. ⌜ r ≡ traceOf (now (name .entry)) ⌝ }
+pub(crate) fn trace_of(name: Name) -> Trace
+    ensures { λ r. ⌜ r ≡ traceOf name ⌝ }
 {
-    let length = name.len();
-    let mask0 = mask_from(length, 0);
-    let mask1 = mask_from(length, 8);
-    let mask2 = mask_from(length, 16);
+    let length = name.length;
     Trace {
         length,
-        mask0,
-        mask1,
-        mask2,
-        low0: pack(name, 0) & mask0,
-        low1: pack(name, 8) & mask1,
-        low2: pack(name, 16) & mask2,
+        first: piece_of(name.first, length, 0),
+        second: piece_of(name.second, length, 8),
+        third: piece_of(name.third, length, 16),
     }
 }
 
-// Whether a word of a row's name may be that of a name with this trace.
-fn fits_trace(words: &AccountWords, at: usize, mask: u64, low: u64) -> bool
-    requires { ⌜ at < accountsSize ⌝ }
-    ensures { λ r. ⌜ r ≡ eqb (bitAnd (getD (now (words .entry)) at 0) mask) low ⌝ }
-{
-    words[at] & mask == low
-}
-
-// Whether a row may match the name of a trace. Few that do not match get past this.
+// Whether a row may have a name. The length is looked at first. Few that have not the name get past this.
 fn may_match(words: &AccountWords, n: usize, t: Trace) -> bool
-    requires { ⌜ n < accountLimit ⌝ }
-    ensures { λ r. ⌜ ((s : List ℕ) → Bytes s → t ≡ traceOf s → r ≡ false → hasName (now (words .entry)) n true s ≡ false) ⌝ }
+    requires { ⌜ (n < accountLimit) × (t ≡ traceOf (nameIn t)) ⌝ }
+    ensures { λ r. ⌜ ((f : Bool) → r ≡ false → hasName (now (words .entry)) n f (bytesOf (nameIn t)) ≡ false) ⌝ }
 {
     if length_at(words, n) != t.length {
         return false;
     }
-    if !fits_trace(words, ROW_SIZE * n, t.mask0, t.low0) {
+    if !may_agree(row_word(words, n, 0), t.first) {
         return false;
     }
-    if !fits_trace(words, ROW_SIZE * n + 1, t.mask1, t.low1) {
+    if !may_agree(row_word(words, n, 1), t.second) {
         return false;
     }
-    fits_trace(words, ROW_SIZE * n + 2, t.mask2, t.low2)
+    may_agree(row_word(words, n, 2), t.third)
 }
 
-// Whether a row is set and matches a name, whose trace is given.
-fn matches_name(words: &AccountWords, n: usize, name: &[u8], t: Trace) -> bool
-    requires { ⌜ (n < accountLimit) × (t ≡ traceOf (now name)) ⌝ }
-    ensures { λ r. ⌜ r ≡ hasName (now (words .entry)) n true (now (name .entry)) ⌝ }
+// Whether a row is set and has a name, with letter case ignored or not.
+pub(crate) fn has_name(words: &AccountWords, n: usize, ignore: bool, t: Trace) -> bool
+    requires { ⌜ (n < accountLimit) × (t ≡ traceOf (nameIn t)) ⌝ }
+    ensures { λ r. ⌜ r ≡ hasName (now (words .entry)) n ignore (bytesOf (nameIn t)) ⌝ }
+{
+    if length_at(words, n) != t.length {
+        return false;
+    }
+    if !same_word(ignore, row_word(words, n, 0), t.first) {
+        return false;
+    }
+    if !same_word(ignore, row_word(words, n, 1), t.second) {
+        return false;
+    }
+    if !same_word(ignore, row_word(words, n, 2), t.third) {
+        return false;
+    }
+    set_length(t.length)
+}
+
+// Whether a row is set and matches a name.
+fn matches_name(words: &AccountWords, n: usize, t: Trace) -> bool
+    requires { ⌜ (n < accountLimit) × (t ≡ traceOf (nameIn t)) ⌝ }
+    ensures { λ r. ⌜ r ≡ hasName (now (words .entry)) n true (bytesOf (nameIn t)) ⌝ }
 {
     if may_match(words, n, t) {
-        has_name(words, n, true, name)
+        has_name(words, n, true, t)
     } else {
         false
     }
 }
 
-// The lowest account that is set and matches a name; one past the last where none does.
-pub(crate) fn find_name(words: &AccountWords, name: &[u8]) -> usize
-    ensures exact { λ r. ⌜ r ≡ findName (tableOf (now (words .entry))) (now (name .entry)) ⌝ }
+// The lowest account other than a given one that is set and matches a name; one past the last where none does.
+fn first_match(words: &AccountWords, name: Name, except: usize) -> usize
+    ensures exact { λ r. ⌜ r ≡ firstFrom except 0 (tableOf (now (words .entry))) (bytesOf name) ⌝ }
     ensures bounded { λ r. ⌜ r ≤ accountLimit ⌝ }
 {
     let t = trace_of(name);
     let mut i = 0;
     while i < ACCOUNT_LIMIT {
-        if matches_name(words, i, name, t) {
+        if both(i != except, matches_name(words, i, t)) {
             return i;
         }
         i += 1;
@@ -194,17 +203,17 @@ pub(crate) fn find_name(words: &AccountWords, name: &[u8]) -> usize
     ACCOUNT_LIMIT
 }
 
-// Whether another account than a given one is set and matches a name.
-pub(crate) fn name_taken(words: &AccountWords, number: usize, name: &[u8]) -> bool
-    ensures { λ r. ⌜ r ≡ nameTaken number 0 (tableOf (now (words .entry))) (now (name .entry)) ⌝ }
+// The lowest account that is set and matches a name; one past the last where none does.
+pub(crate) fn find_name(words: &AccountWords, name: Name) -> usize
+    ensures exact { λ r. ⌜ r ≡ findName (tableOf (now (words .entry))) (bytesOf name) ⌝ }
+    ensures bounded { λ r. ⌜ r ≤ accountLimit ⌝ }
 {
-    let t = trace_of(name);
-    let mut i = 0;
-    while i < ACCOUNT_LIMIT {
-        if both(i != number, matches_name(words, i, name, t)) {
-            return true;
-        }
-        i += 1;
-    }
-    false
+    first_match(words, name, ACCOUNT_LIMIT)
+}
+
+// Whether another account than a given one is set and matches a name.
+pub(crate) fn name_taken(words: &AccountWords, number: usize, name: Name) -> bool
+    ensures { λ r. ⌜ r ≡ nameTaken number 0 (tableOf (now (words .entry))) (bytesOf name) ⌝ }
+{
+    first_match(words, name, number) < ACCOUNT_LIMIT
 }

@@ -1,47 +1,65 @@
 // The two routes of kind 4 (R5.7), from Service 1, the TGT's client, to Service 2, which the request names.
 use crate::accounts::in_set;
-use crate::options::has_cname_in_addl_tkt;
 use crate::options::is_forwardable;
-use crate::options::is_resource_based;
 use definitions::Account;
-use definitions::Request;
+use definitions::Principal;
 use definitions::Ticket;
 use record::both;
 use record::either;
 ghost use mathlib.Core.Path.{_≡_};
-ghost use Rattle.definitions.specs.Routes.{classicRoute, resourceRoute, isPermitted};
+ghost use Rattle.definitions.specs.Routes.{classicRoute, resourceRoute, hasRoute, isPermitted};
 
 // Whether the classic route holds, to the account of a number.
-fn classic_route(first: Account, evidence: Ticket, number: usize) -> bool
-    ensures { λ r. ⌜ r ≡ classicRoute first evidence number ⌝ }
-{
-    both(in_set(first.send, number), is_forwardable(evidence.flags))
-}
-
-// Whether the resource route holds.
-fn resource_route(second: Account, request: Request, tgt: Ticket, evidence: Ticket) -> bool
-    ensures { λ r. ⌜ r ≡ resourceRoute second request tgt evidence ⌝ }
+fn classic_route(service1: Account, evidence: Ticket, number2: Principal) -> bool
+    ensures { λ r. ⌜ r ≡ classicRoute service1 evidence number2 ⌝ }
 {
     both(
-        is_resource_based(request.pac_options),
-        both(
-            in_set(second.receive, tgt.client as usize),
-            !evidence.barred,
-        ),
+        in_set(service1.send, number2 as usize),
+        is_forwardable(evidence.flags),
     )
 }
 
-// Whether option CNAME-IN-ADDL-TKT stands and a route holds, to the account of a number.
-pub(crate) fn is_permitted(request: Request, first: Account, second: Account, number: usize) -> bool
-    ensures { λ r. ⌜ r ≡ isPermitted first second request (request .tgt) (request .evidence) number ⌝ }
+// Whether the resource route holds, from the account of a number.
+fn resource_route(service2: Account, resource: bool, number1: Principal, evidence: Ticket) -> bool
+    ensures { λ r. ⌜ r ≡ resourceRoute service2 resource number1 evidence ⌝ }
 {
-    let tgt = request.tgt;
-    let evidence = request.evidence;
     both(
-        has_cname_in_addl_tkt(request.options),
-        either(
-            classic_route(first, evidence, number),
-            resource_route(second, request, tgt, evidence),
-        ),
+        resource,
+        both(in_set(service2.receive, number1 as usize), !evidence.barred),
+    )
+}
+
+// Whether a route holds, from the account of the first number to that of the second.
+fn has_route(
+    service1: Account,
+    service2: Account,
+    resource: bool,
+    number1: Principal,
+    evidence: Ticket,
+    number2: Principal,
+) -> bool
+    ensures { λ r. ⌜ r ≡ hasRoute service1 service2 resource number1 evidence number2 ⌝ }
+{
+    either(
+        classic_route(service1, evidence, number2),
+        resource_route(service2, resource, number1, evidence),
+    )
+}
+
+// Whether CNAME-IN-ADDL-TKT stands and a route holds.
+pub(crate) fn is_permitted(
+    service1: Account,
+    service2: Account,
+    cname: bool,
+    resource: bool,
+    number1: Principal,
+    evidence: Ticket,
+    number2: Principal,
+) -> bool
+    ensures { λ r. ⌜ r ≡ isPermitted service1 service2 cname resource number1 evidence number2 ⌝ }
+{
+    both(
+        cname,
+        has_route(service1, service2, resource, number1, evidence, number2),
     )
 }

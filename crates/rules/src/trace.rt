@@ -1,13 +1,16 @@
 // What a search for a name compares rows with (specs/Traces.antt).
 
-// What a search compares rows with, so that it looks at words and not at bytes: the name's length, and for each of the three words of a
-// name a mask and what stands under it.
+// A word of a name, how many of its bytes are the name's, and the mask of the low five bits of those.
+pub struct Piece {
+    pub word: u64,
+    pub count: usize,
+    pub mask: u64,
+}
+
+// A name's length and its three words, as a row is compared with them.
 pub struct Trace {
     pub length: usize,
-    pub mask0: u64,
-    pub mask1: u64,
-    pub mask2: u64,
-    pub low0: u64,
-    pub low1: u64,
-    pub low2: u64,
+    pub first: Piece,
+    pub second: Piece,
+    pub third: Piece,
 }

@@ -1,9 +1,5 @@
 // The windows of new tickets (R5.9).
-use definitions::Account;
 use definitions::LAST_SECOND;
-use definitions::Moment;
-use definitions::Request;
-use definitions::Ticket;
 use definitions::Window;
 ghost use mathlib.Core.Path.{_≡_};
 ghost use Rattle.definitions.specs.Windows.{fullWindow, wished, initialWindow, grantWindow, hopWindow};
@@ -31,41 +27,30 @@ fn wished(till: u32, window: Window) -> Window
     }
 }
 
-// The window of an initial ticket.
-pub(crate) fn initial_window(moment: Moment, request: Request, client: Account) -> Window
-    ensures { λ r. ⌜ r ≡ initialWindow moment request client ⌝ }
+// The window of an initial ticket, by the client's lifetime.
+pub(crate) fn initial_window(clock: u32, lifetime: u32, till: u32) -> Window
+    ensures { λ r. ⌜ r ≡ initialWindow clock lifetime till ⌝ }
 {
-    wished(request.till, full_window(moment.clock, client.lifetime))
+    wished(till, full_window(clock, lifetime))
 }
 
-// The window of a ticket that rests on a TGT.
-pub(crate) fn grant_window(
-    moment: Moment,
-    request: Request,
-    service: Account,
-    tgt: Ticket,
-) -> Window
-    ensures { λ r. ⌜ r ≡ grantWindow moment request service tgt ⌝ }
+// The window of a ticket that rests on a TGT with this end, by the service's lifetime.
+pub(crate) fn grant_window(clock: u32, lifetime: u32, till: u32, tgt_end: u32) -> Window
+    ensures { λ r. ⌜ r ≡ grantWindow clock lifetime till «tgt_end» ⌝ }
 {
-    let w = tgt.window;
-    wished(
-        request.till,
-        full_window(moment.clock, service.lifetime).until(w.end),
-    )
+    wished(till, full_window(clock, lifetime).until(tgt_end))
 }
 
-// The window of a ticket that rests on a TGT and on evidence.
+// The window of a ticket that rests on a TGT and on evidence with these ends, by the service's lifetime.
 pub(crate) fn hop_window(
-    moment: Moment,
-    request: Request,
-    service: Account,
-    tgt: Ticket,
-    evidence: Ticket,
+    clock: u32,
+    lifetime: u32,
+    till: u32,
+    tgt_end: u32,
+    evidence_end: u32,
 ) -> Window
-    ensures { λ r. ⌜ r ≡ hopWindow moment request service tgt evidence ⌝ }
+    ensures { λ r. ⌜ r ≡ hopWindow clock lifetime till «tgt_end» «evidence_end» ⌝ }
 {
-    let v = tgt.window;
-    let w = evidence.window;
-    let full = full_window(moment.clock, service.lifetime);
-    wished(request.till, full.until(v.end).until(w.end))
+    let full = full_window(clock, lifetime);
+    wished(till, full.until(tgt_end).until(evidence_end))
 }

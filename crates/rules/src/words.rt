@@ -1,24 +1,26 @@
-// The accounts' words: a row of six for each account. Beside this file only the search by name (name.rt) and the storing of a row (edit.rt)
-// see an offset.
+// The accounts' words: a header, and a row of eight words for each account, of which an edit sets six. Offsets are seen here and nowhere else.
 use definitions::ACCOUNT_LIMIT;
 use definitions::ACCOUNTS_SIZE;
 use definitions::Account;
-use definitions::NAME_LIMIT;
+use definitions::DETAIL_WORD;
+use definitions::Name;
+use definitions::RECEIVE_WORD;
 use definitions::ROW_SIZE;
+use definitions::ROWS_START;
+use definitions::SEND_WORD;
 use definitions::TWO_8;
 use definitions::TWO_32;
-use record::both;
-use record::byte;
+use record::set_length;
 ghost use mathlib.Core.Path.{_≡_};
 ghost use mathlib.Core.List.{[], _∷_};
-ghost use Prim.Native.Nat.{_+_, _*_, _<_, _≤_};
+ghost use Prim.Native.Nat.{_<_};
 ghost use lib.ListN.{length};
-ghost use Rattle.definitions.specs.Limits.{accountLimit, nameLimit, rowSize, accountsSize};
+ghost use Rattle.definitions.specs.Limits.{accountLimit, rowSize};
 ghost use Rattle.definitions.specs.Accounts.{neverSet, accountAt};
-ghost use Rattle.definitions.specs.Words.{byteAt, packAt, putRow};
-ghost use Rattle.definitions.specs.AccountWords.{rowAt, tableOf, setLength, lengthAt, noAccountWords};
+ghost use Rattle.definitions.specs.Words.{putRow};
+ghost use Rattle.definitions.specs.AccountWords.{rowStart, rowWord, rowAt, tableOf, lengthAt, noAccountWords};
 
-// The words of all rows.
+// The words of the header and of all rows.
 pub type AccountWords = [u64; ACCOUNTS_SIZE];
 
 // How many words are lent.
@@ -41,11 +43,12 @@ fn never_set() -> Account
     }
 }
 
-// Whether a stored length is that of a row that is set.
-pub(crate) fn set_length(length: usize) -> bool
-    ensures { λ r. ⌜ r ≡ setLength length ⌝ }
+// A word of a row; the first three are the name's.
+pub(crate) fn row_word(words: &AccountWords, n: usize, k: usize) -> u64
+    requires { ⌜ (n < accountLimit) × (k < rowSize) ⌝ }
+    ensures { λ r. ⌜ r ≡ rowWord (now (words .entry)) n k ⌝ }
 {
-    both(1 <= length, length <= NAME_LIMIT)
+    words[ROWS_START + ROW_SIZE * n + k]
 }
 
 // The stored length of a row's name.
@@ -53,15 +56,7 @@ pub(crate) fn length_at(words: &AccountWords, n: usize) -> usize
     requires { ⌜ n < accountLimit ⌝ }
     ensures { λ r. ⌜ r ≡ lengthAt (now (words .entry)) n ⌝ }
 {
-    (words[ROW_SIZE * n + 3] % TWO_8) as usize
-}
-
-// A byte of a row's name.
-pub(crate) fn byte_at(words: &AccountWords, n: usize, k: usize) -> u8
-    requires { ⌜ (n < accountLimit) × (k < nameLimit) ⌝ }
-    ensures { λ r. ⌜ r ≡ byteAt (now (words .entry)) (rowSize * n) k ⌝ }
-{
-    ((words[ROW_SIZE * n + k / 8] >> (8 * (k % 8))) % 256) as u8
+    (row_word(words, n, DETAIL_WORD) % TWO_8) as usize
 }
 
 // The account of a row.
@@ -69,13 +64,13 @@ fn row_at(words: &AccountWords, n: usize) -> Account
     requires { ⌜ n < accountLimit ⌝ }
     ensures { λ r. ⌜ r ≡ rowAt (now (words .entry)) n .account ⌝ }
 {
-    let detail = words[ROW_SIZE * n + 3];
+    let detail = row_word(words, n, DETAIL_WORD);
     if set_length(length_at(words, n)) {
         Account {
             known: true,
             flags: (detail / TWO_8 % TWO_8) as u8,
-            send: words[ROW_SIZE * n + 4],
-            receive: words[ROW_SIZE * n + 5],
+            send: row_word(words, n, SEND_WORD),
+            receive: row_word(words, n, RECEIVE_WORD),
             lifetime: (detail / TWO_32 % TWO_32) as u32,
         }
     } else {
@@ -94,40 +89,25 @@ pub(crate) fn account_at(words: &AccountWords, number: usize) -> Account
     }
 }
 
-// Eight bytes of a name as a word, zeros past its end.
-pub(crate) fn pack(name: &[u8], from: usize) -> u64
-    requires { ⌜ from ≤ 16 ⌝ }
-    ensures { λ r. ⌜ r ≡ packAt (now (name .entry)) from 8 ⌝ }
-{
-    let mut word: u64 = 0;
-    let mut i = 8;
-    while 0 < i {
-        i -= 1;
-        word = byte(name, from + i) as u64 + 256 * word;
-    }
-    word
-}
-
-// Puts the six words of a row.
+// Puts the six words of a row that an edit sets.
 pub(crate) fn put_row(
     words: &mut AccountWords,
-    at: usize,
-    a: u64,
-    b: u64,
-    c: u64,
-    d: u64,
-    e: u64,
-    f: u64,
+    n: usize,
+    name: Name,
+    detail: u64,
+    send: u64,
+    receive: u64,
 )
-    requires { ⌜ at + rowSize ≤ accountsSize ⌝ }
-    ensures { λ _. ⌜ now (words .exit) ≡ putRow (now (words .entry)) at (a ∷ b ∷ c ∷ d ∷ e ∷ f ∷ []) ⌝ }
+    requires { ⌜ n < accountLimit ⌝ }
+    ensures { λ _. ⌜ now (words .exit) ≡ putRow (now (words .entry)) (rowStart n) (name .first ∷ name .second ∷ name .third ∷ detail ∷ send ∷ receive ∷ []) ⌝ }
 {
-    words[at] = a;
-    words[at + 1] = b;
-    words[at + 2] = c;
-    words[at + 3] = d;
-    words[at + 4] = e;
-    words[at + 5] = f;
+    let at = ROWS_START + ROW_SIZE * n;
+    words[at] = name.first;
+    words[at + 1] = name.second;
+    words[at + 2] = name.third;
+    words[at + DETAIL_WORD] = detail;
+    words[at + SEND_WORD] = send;
+    words[at + RECEIVE_WORD] = receive;
 }
 
 // A table with no account set (R7.2).

@@ -24,12 +24,12 @@ use Rattle.definitions.specs.declared.ticket.Written.{Written}
 use Rattle.definitions.specs.declared.ticket.Written.the-variants.{Length, Refused as Unwritten}
 use Rattle.definitions.proofs.TicketRecords.{record-most}
 use Rattle.definitions.proofs.RoundTrip.{given-writable}
-use Rattle.definitions.specs.AccountWords.{tableOf}
-use Rattle.definitions.specs.Edits.{Edit, editAnswer}
+use Rattle.definitions.specs.Edits.{Edit}
 use Rattle.definitions.specs.declared.decision.Decision.{Decision}
-use Rattle.definitions.specs.Promises.{Edited, Requested, Service}
+use Rattle.definitions.specs.Answers.{edit as an-edit, request as a-request, lengthOf}
+use Rattle.definitions.specs.Services.{Service, Outcome, perform}
 use Rattle.tickets.specs.declared.TicketsAnswer.{TicketsAnswer}
-use Rattle.tickets.specs.Calls.{EditCall, RequestCall, decisionOf, answerIn, requestAnswer, replyWith}
+use Rattle.tickets.specs.Calls.{EditCall, RequestCall, answerIn, requestAnswer}
 
 never : (P : Type 0) (e : Error) (n : ℕ) → Unwritten e ≡ Length n → P
 never P e n h = let z : _≡_ {A = ℕ} 0 1 = cc in absurd (omega arith)
@@ -53,20 +53,24 @@ value-most s b r e a w k n h l =
     let most = record-most (r .ticket) (given-writable (r .ticket) (record { bytes = s; are-bytes = b; read = read }) .in-range .places) in
     omega (arith, most, written-length (r .ticket) k n (sym h ∙ l))
 
--- ---- An edit's promise, in numbers
+-- ---- An edit, in numbers
 pub edit-call : (w w' : List ℕ) (x : Edit) (r : Answer)
-    → ((l : List ℕ) → Edited (record { accounts = w; ledger = l }) x (record { answer = r; ticket = blankTicket; output = [] }) (record { accounts = w'; ledger = l }))
+    → ((l : List ℕ) → record { reply = record { answer = r; ticket = blankTicket; output = [] }; service = record { accounts = w'; ledger = l } } ≡ perform (record { accounts = w; ledger = l }) (an-edit x))
     → (n : ℕ) → n ≡ answerNumber r → EditCall w x n w'
 edit-call w w' x r p n e =
-    let a : r ≡ editAnswer (tableOf w) x = p [] .answered in
-    record { answered = e ∙ ap answerNumber a; promise = λ l. rw (← a) (p l) }
+    record { answered = λ l. e ∙ ap (λ (o : Outcome). answerNumber (o .reply .answer)) (p l); left = λ l. ap (λ (o : Outcome). o .service) (p l) }
 
--- ---- A request's promise, in numbers
-pub request-call : (s s' : Service) (bytes : List ℕ) (clock : ℕ) (o o' : List ℕ) (d : Decision) → Requested s bytes clock o (replyWith d o') s'
-    → (r : Answer) → d .answer ≡ r → (x : TicketsAnswer) → x ≡ answerIn r (d .ticket) → RequestCall s bytes clock o x o' s'
-request-call s s' bytes clock o o' d p r h x e =
-    let q : d ≡ decisionOf s bytes clock o = p .decided in
+-- ---- A request, in numbers
+-- the answer of a grant, by the length that came with its reply
+pub granted-answer : (y : Answer) (t : Ticket) (n : ℕ) → n ≡ lengthOf y t → y ≡ Accepted → record { error = 0; value = n } ≡ answerIn Accepted t
+granted-answer y t n e h = rw (e, h)
+
+pub request-call : (s s' : Service) (bytes : List ℕ) (clock : ℕ) (o o' : List ℕ) (y : Answer) (t : Ticket)
+    → record { reply = record { answer = y; ticket = t; output = o' }; service = s' } ≡ perform s (a-request bytes clock o)
+    → (r : Answer) → y ≡ r → (x : TicketsAnswer) → x ≡ answerIn r t → RequestCall s bytes clock o x o' s'
+request-call s s' bytes clock o o' y t p r h x e =
     record {
-      answered = e ∙ ap (λ (y : Answer). answerIn y (d .ticket)) (sym h) ∙ ap requestAnswer q;
-      promise = rw (← q) p;
+      answered = e ∙ ap (λ (a : Answer). answerIn a t) (sym h) ∙ ap (λ (z : Outcome). requestAnswer (z .reply)) p;
+      laid = ap (λ (z : Outcome). z .reply .output) p;
+      left = ap (λ (z : Outcome). z .service) p;
     }

@@ -5,13 +5,11 @@ use mathlib.Core.Path.{_≡_}
 use mathlib.Core.List.{List, [], _∷_}
 use lib.ListN.{length}
 use Rattle.definitions.specs.Errors.{errorNumber, answerNumber}
-use Rattle.definitions.specs.TicketRecords.{blankTicket, recordOf}
+use Rattle.definitions.specs.TicketRecords.{recordOf}
 use Rattle.definitions.specs.Output.{writtenOf, outputOf}
-use Rattle.definitions.specs.AccountWords.{tableOf}
-use Rattle.definitions.specs.Edits.{Edit, editAnswer}
-use Rattle.definitions.specs.LedgerWords.{ticketsOf}
-use Rattle.definitions.specs.Answers.{decideRequest, Reply}
-use Rattle.definitions.specs.Promises.{Service, Edited, Requested}
+use Rattle.definitions.specs.Edits.{Edit}
+use Rattle.definitions.specs.Answers.{edit as an-edit, request as a-request, Reply}
+use Rattle.definitions.specs.Services.{Service, perform}
 use Rattle.definitions.specs.declared.error.Error.{Error}
 use Rattle.definitions.specs.declared.error.Answer.{Answer}
 use Rattle.definitions.specs.declared.error.Answer.the-variants.{Accepted, Refused}
@@ -23,7 +21,6 @@ use Rattle.definitions.specs.declared.request.Kind.{Kind}
 use Rattle.definitions.specs.declared.request.Kind.the-variants.{Initial, Direct, S4U2self, S4U2proxy}
 use Rattle.definitions.specs.declared.request.Request.{Request}
 use Rattle.definitions.specs.declared.request.RequestReading.{RequestReading}
-use Rattle.definitions.specs.declared.decision.Decision.{Decision}
 use Rattle.definitions.specs.declared.descended.Descended.{Descended}
 use Rattle.definitions.specs.declared.descended.Descended.the-variants.{Steps, Refused as NoDescent}
 use Rattle.tickets.specs.declared.TicketsAnswer.{TicketsAnswer}
@@ -80,11 +77,11 @@ abbrev pub fieldsAfter : RequestReading → List ℕ → List ℕ
 fieldsAfter reading before = fieldsRead (reading .answer) (reading .request) before
 
 -- ---- An edit of the service
--- what an edit promises a C caller: the number of its answer, and the promise that histories are made of, whatever ledger stands beside the accounts
-pub record EditCall (before : List ℕ) (edit : Edit) (number : ℕ) (after : List ℕ) : Type 0 where
-  pub answered : number ≡ answerNumber (editAnswer (tableOf before) edit)
-  pub promise : (ledger : List ℕ)
-      → Edited (record { accounts = before; ledger = ledger }) edit (record { answer = editAnswer (tableOf before) edit; ticket = blankTicket; output = [] }) (record { accounts = after; ledger = ledger })
+-- what an edit promises a C caller: the number of the call's answer, and the words that it leaves, whatever ledger stands beside the accounts
+pub record EditCall (before : List ℕ) (change : Edit) (number : ℕ) (after : List ℕ) : Type 0 where
+  pub answered : (ledger : List ℕ) → number ≡ answerNumber (perform (record { accounts = before; ledger = ledger }) (an-edit change) .reply .answer)
+  pub left : (ledger : List ℕ)
+      → record { accounts = after; ledger = ledger } ≡ perform (record { accounts = before; ledger = ledger }) (an-edit change) .service
 
 -- ---- A request of the service
 -- the answer of a grant: no error, and the length of the ticket's record, which stands at the output's start
@@ -96,22 +93,15 @@ abbrev pub answerIn : Answer → Ticket → TicketsAnswer
 answerIn Accepted ticket = lengthAnswer ticket
 answerIn (Refused error) ticket = errorAnswer error
 
--- the answer to a request by its decision: no error and the length of the ticket's record, or the refusal's number
-abbrev pub requestAnswer : Decision → TicketsAnswer
-requestAnswer decision = answerIn (decision .answer) (decision .ticket)
+-- the reply to a request, in numbers: no error and the length of the ticket's record, or the refusal's number
+abbrev pub requestAnswer : Reply → TicketsAnswer
+requestAnswer reply = answerIn (reply .answer) (reply .ticket)
 
--- a decision as a reply, with the output after the call
-abbrev pub replyWith : Decision → List ℕ → Reply
-replyWith decision output = record { answer = decision .answer; ticket = decision .ticket; output = output }
-
--- what a service decides on a request's bytes, at a clock reading and with an output
-abbrev pub decisionOf : Service → List ℕ → ℕ → List ℕ → Decision
-decisionOf before bytes clock output = decideRequest (tableOf (before .accounts)) (ticketsOf (before .ledger)) bytes clock (length output)
-
--- what a request promises a C caller: its answer in numbers, and the promise that histories are made of
+-- what a request promises a C caller: the call's answer in numbers, and the output and the words that it leaves
 pub record RequestCall (before : Service) (bytes : List ℕ) (clock : ℕ) (output : List ℕ) (answer : TicketsAnswer) (written : List ℕ) (after : Service) : Type 0 where
-  pub answered : answer ≡ requestAnswer (decisionOf before bytes clock output)
-  pub promise : Requested before bytes clock output (replyWith (decisionOf before bytes clock output) written) after
+  pub answered : answer ≡ requestAnswer (perform before (a-request bytes clock output) .reply)
+  pub laid : written ≡ perform before (a-request bytes clock output) .reply .output
+  pub left : after ≡ perform before (a-request bytes clock output) .service
 
 -- ---- A descent
 -- R7.4: no error and the steps, or 41

@@ -6,7 +6,6 @@ use definitions::Descended;
 use definitions::Error;
 use definitions::Kind;
 use definitions::Request;
-use definitions::Ticket;
 use definitions::Written;
 use ledger::LedgerWords;
 use rules::AccountWords;
@@ -21,8 +20,8 @@ ghost use Rattle.definitions.specs.Edits.{editOf};
 ghost use Rattle.definitions.specs.LedgerWords.{ticketsOf};
 ghost use Rattle.definitions.specs.Totals.{dayTotal};
 ghost use Rattle.definitions.specs.Descent.{descent, descended};
-ghost use Rattle.definitions.specs.Promises.{freshService};
-ghost use Rattle.tickets.specs.Calls.{errorAnswer, writtenAnswer, rewriteAnswer, rewriteOutput, kindNumber, requestFields, fieldsAfter, EditCall, lengthAnswer, RequestCall, descentAnswer};
+ghost use Rattle.definitions.specs.Services.{freshService};
+ghost use Rattle.tickets.specs.Calls.{errorAnswer, writtenAnswer, rewriteAnswer, rewriteOutput, kindNumber, requestFields, fieldsAfter, EditCall, RequestCall, descentAnswer};
 
 // What a call answers: the error number, 0 where there is none, and a value, 0 beside an error.
 #[repr(C)]
@@ -154,20 +153,10 @@ pub extern "C" fn tickets_edit(
     record::answer_number(ledger::edit(accounts, number, name, flags, send, receive, lifetime))
 }
 
-// The answer of a grant: its record's length.
-fn length_answer(ticket: Ticket) -> TicketsAnswer
-    ensures { λ r. ⌜ r ≡ lengthAnswer ticket ⌝ }
-{
-    TicketsAnswer {
-        error: 0,
-        value: record::record_length(ticket) as u32,
-    }
-}
-
 // Answers a request: the length of the record at the output's start, or the refusal's number.
 #[no_mangle]
 pub extern "C" fn tickets_request(
-    accounts: &AccountWords,
+    accounts: &mut AccountWords,
     ledger: &mut LedgerWords,
     request: &[u8],
     clock: u32,
@@ -175,10 +164,13 @@ pub extern "C" fn tickets_request(
 ) -> TicketsAnswer
     ensures { λ r. ⌜ RequestCall (record { accounts = now (accounts .entry); ledger = now (ledger .entry) }) (now (request .entry)) clock (now (output .entry)) r (now (output .exit)) (record { accounts = now (accounts .exit); ledger = now (ledger .exit) }) ⌝ }
 {
-    let decision = ledger::request(accounts, ledger, request, clock, output);
-    let answer = decision.answer;
+    let reply = ledger::request(accounts, ledger, request, clock, output);
+    let answer = reply.answer;
     match answer {
-        Answer::Accepted => length_answer(decision.ticket),
+        Answer::Accepted => TicketsAnswer {
+            error: 0,
+            value: reply.length as u32,
+        },
         Answer::Refused(error) => error_answer(error),
     }
 }

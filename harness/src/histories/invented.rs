@@ -7,7 +7,7 @@ use crate::limits::{
 };
 use crate::random::Random;
 use crate::service::Service;
-use crate::words::{place_at, row_at, store_account, store_ticket};
+use crate::words::{number, place_at, put_number, row_at, store_account, store_ticket};
 
 /// A time at which many of the invented tickets are valid.
 pub const NOW: u32 = 1_000;
@@ -46,11 +46,14 @@ pub fn words(random: &mut Random) -> Box<library::Service> {
 /// Plausible words whose tickets mostly go back to the one before them.
 fn chain(random: &mut Random, words: &mut library::Service) {
     plausible(random, words);
-    for (number, place) in (0..).zip(words.ledger[1..].chunks_exact_mut(PLACE_SIZE)) {
-        place[0] = place[0] & !0xFFFF | number;
-        if number > 0 && !random.once_in(200) {
+    for place in 0..TICKET_LIMIT {
+        put_number(&mut words.ledger, place, place as u16);
+        if place > 0 && !random.once_in(200) {
+            let back = place as u64 - 1;
             let tag = random.pick(&[1, 2, 3]);
-            place[2] = tag | (number - 1) << 32 | (number - 1) << 48;
+            let words = &mut words.ledger[place_at(place)..];
+            words[0] = words[0] & !(0xF << 56) | tag << 56;
+            words[2] = back << 32 | back << 48;
         }
     }
 }
@@ -63,7 +66,7 @@ fn each(words: &mut library::Service, mut change: impl FnMut(&mut u64)) {
 /// Accounts with short names of few letters, some of them the same, and tickets whose parts are
 /// small numbers.
 fn plausible(random: &mut Random, words: &mut library::Service) {
-    for row in words.accounts.chunks_exact_mut(ROW_SIZE) {
+    for row in words.accounts[row_at(0)..].chunks_exact_mut(ROW_SIZE) {
         let name: Vec<u8> = (0..8).map(|_| random.pick(b"abAB[{@\x00\xE1")).collect();
         row[0] = u64::from_le_bytes(name.try_into().expect("eight bytes"));
         let length = random.pick(&[0, 1, 2, 3, 4, 5, 6, 7, 8, NAME, NAME + 1, u8::MAX]);
@@ -77,29 +80,31 @@ fn plausible(random: &mut Random, words: &mut library::Service) {
     let accounts = random.pick(&[4, 8, 16, ACCOUNT_LIMIT]);
     let counts = [TICKETS - 1, TICKETS, TICKETS + 1, 1_000, 1 << 32, u64::MAX];
     words.ledger[0] = random.pick(&counts);
-    for place in words.ledger[1..].chunks_exact_mut(PLACE_SIZE) {
+    for place in 0..TICKET_LIMIT {
+        put_number(&mut words.ledger, place, random.below(numbers) as u16);
+        let place = &mut words.ledger[place_at(place)..][..PLACE_SIZE];
         plausible_ticket(random, numbers, accounts, place);
     }
 }
 
-/// A ticket whose numbers and accounts are below these; one account in sixteen is beyond the limit.
+/// A ticket whose back numbers and accounts are below these; one account in sixteen is beyond the limit.
 fn plausible_ticket(random: &mut Random, numbers: usize, accounts: usize, words: &mut [u64]) {
     let mut number = |limit: usize| random.below(limit) as u64;
-    let (own, tgt, evidence) = (number(numbers), number(numbers), number(numbers));
+    let (tgt, evidence) = (number(numbers), number(numbers));
     let beyond = u64::from(ACCOUNT);
     let mut account = || if number(16) == 0 { beyond + number(4) } else { number(accounts) };
     let (client, service) = (account(), account());
     let (start, end) = (number(2 * NOW as usize), number(4 * NOW as usize));
-    let tag = random.pick(&[0, 0, 0, 1, 2, 3, 3, 4, 255]);
+    let tag = random.pick(&[0, 0, 0, 1, 2, 3, 3, 4, 15]);
     let service = if tag == 0 && !random.once_in(8) { 0 } else { service };
-    let mark = random.pick(&[0, 0, 1, 1, 2, 255]);
+    let mark = random.pick(&[0, 0, 1, 1, 2, 15]);
     let counts = [0, 1, 2, TRAIL - 1, TRAIL - 1, TRAIL, TRAIL, TRAIL + 1, u8::MAX];
     let hops = u64::from(if tag > 2 { random.pick(&counts) } else { 0 });
     let kept = if random.once_in(8) { u64::BITS } else { 8 * hops.min(TRAIL.into()) as u32 };
     let flags = random.pick(&[0x4000_0000, 0x4000_0000, 0x0040_0000, 0, 0xFFFF_FFFF]);
-    words[0] = own | client << 16 | service << 24 | flags << 32;
+    words[0] = flags | client << 32 | service << 40 | hops << 48 | tag << 56 | mark << 60;
     words[1] = start | end << 32;
-    words[2] = tag | mark << 8 | hops << 16 | tgt << 32 | evidence << 48;
+    words[2] = tgt << 32 | evidence << 48;
     words[3] =
         random.word() & 0x3F3F_3F3F_3F3F_3F3F & 1u64.checked_shl(kept).map_or(!0, |bit| bit - 1);
 }
@@ -127,15 +132,15 @@ pub fn changed(random: &mut Random, service: &Service) -> Box<library::Service> 
 /// the limit, start for end, or its tag.
 fn change_half(random: &mut Random, words: &mut library::Service, count: usize) {
     let kind = random.below(6);
-    for place in words.ledger[1..].chunks_exact_mut(PLACE_SIZE).take(count) {
+    for place in words.ledger[place_at(0)..].chunks_exact_mut(PLACE_SIZE).take(count) {
         match kind {
             _ if random.once_in(2) => {}
-            0 => place[2] ^= 1 << 8,
-            1 => place[0] ^= 0x4000_0000 << 32,
-            2 => place[0] |= u64::from(ACCOUNT) << 16,
-            3 => place[0] |= u64::from(ACCOUNT) << 24,
+            0 => place[0] ^= 1 << 60,
+            1 => place[0] ^= 0x4000_0000,
+            2 => place[0] |= u64::from(ACCOUNT) << 32,
+            3 => place[0] |= u64::from(ACCOUNT) << 40,
             4 => place[1] = place[1].rotate_left(32),
-            _ => place[2] ^= random.pick(&[1, 2, 3, 4]),
+            _ => place[0] ^= random.pick(&[1, 2, 3, 4]) << 56,
         }
     }
 }
@@ -143,9 +148,9 @@ fn change_half(random: &mut Random, words: &mut library::Service, count: usize) 
 /// One change: of a row, of a place that is held, of both, or of the count.
 fn change(random: &mut Random, words: &mut library::Service, count: usize) {
     let account = row_at(random.below(ACCOUNT_LIMIT));
-    let place = place_at(random.below(count));
-    let other = place_at(random.below(count));
-    match random.below(12) {
+    let (held, other) = (random.below(count), random.below(count));
+    let place = place_at(held);
+    match random.below(13) {
         0 => words.accounts[random.below(ACCOUNTS_SIZE)] = random.word(),
         1 => words.ledger[1 + random.below(LEDGER_SIZE - 1)] = random.word(),
         2 => words.accounts[account + random.below(ROW_SIZE)] ^= 1 << random.below(WORD_BITS),
@@ -154,13 +159,22 @@ fn change(random: &mut Random, words: &mut library::Service, count: usize) {
             let from = row_at(random.below(ACCOUNT_LIMIT));
             words.accounts.copy_within(from..from + ROW_SIZE, account);
         }
-        5 => words.ledger.copy_within(other..other + PLACE_SIZE, place),
+        5 => {
+            let number = number(&words.ledger, other);
+            put_number(&mut words.ledger, held, number);
+            words.ledger.copy_within(place_at(other)..place_at(other) + PLACE_SIZE, place);
+        }
         6 => words.ledger[0] = stored_count(random, count),
         7 => put_byte(random, &mut words.accounts[account + 3], &[0, 1, 2, 3]),
         8 => put_byte(random, &mut words.ledger[place + 2], &[0, 1, 2, 3, 4, 5, 6, 7]),
-        9 => put_byte(random, &mut words.ledger[place], &[2, 3]),
-        10 => put_byte(random, &mut words.ledger[place], &[0, 1]),
-        _ => words.ledger[place + 2] ^= 1 << 8,
+        9 => put_byte(random, &mut words.ledger[place], &[4, 5]),
+        10 => put_byte(random, &mut words.ledger[place], &[6, 7]),
+        11 => {
+            let mut number = number(&words.ledger, held).into();
+            put_byte(random, &mut number, &[0, 1]);
+            put_number(&mut words.ledger, held, number as u16);
+        }
+        _ => words.ledger[place] ^= 1 << 60,
     }
 }
 

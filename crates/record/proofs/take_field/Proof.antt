@@ -1,29 +1,34 @@
-use mathlib.Core.Path.{_∙_, sym}
-use native.Mathlib.Nat.{add-zero, one-le-pow, zero-lt-suc}
+use mathlib.Core.Path.{sym, _∙_}
+use native.Mathlib.Omega.{arith}
 use denote.Ref.{now}
-use lib.ListN.{length}
-use Rattle.definitions.proofs.Fields.{stands-within}
-use Rattle.definitions.specs.Fields.{hasBit}
+use Rattle.record.proofs.Cursor.{units-few, taken-there, taken-absent}
 use borrow.Author.Needs.{needs}
 use Rattle.record.proofs.take_field.Statement.{statement}
 use Rattle.record.proofs.take_field.Tie as tie
 
-number-requires : tie.Need-number-requires
-number-requires c κs =
-    let a = c .before .before .before .args in
-    (stands-within (hasBit (a .map) (a .bit)) (a .at) (a .width) (length (now (a .bytes))) (sym (c .before .present .ensures) ∙ c .if1 .taken) (c .before .before .before .pre .2), search needs)
+mul-t12 : tie.Need-mul-t12
+mul-t12 c =
+    let p = c .before .before .before .before .before .before .pre in
+    omega (arith, units-few (c .before .before .before .before .before .before .args .field .unit) (c .before .before .number .result) (p .2))
+
+add-t13 : tie.Need-add-t13
+add-t13 c =
+    let p = c .before .before .before .before .before .before .pre in
+    omega (arith, units-few (c .before .before .before .before .before .before .args .field .unit) (c .before .before .number .result) (p .2))
 
 returns : tie.Need-returns
-returns c =
-    let e = sym (c .before .before .present .ensures) ∙ c .before .if1 .taken in
-    record { value = rw e (c .number .ensures .0); next = rw e; fits = c .number .ensures .1 }
+returns c L ef ei =
+    let a = c .before .before .before .before .before .before .args in
+    let p = c .before .before .before .before .before .before .pre in
+    taken-there L (now (a .bytes)) (a .map) (a .bit) (a .at) (a .field) ef ei (p .3) (c .before .before .number .result) (p .1) (p .2)
+    (sym (c .before .before .before .before .present .ensures) ∙ c .before .before .before .if1 .taken) (c .before .before .number .ensures)
 
 returns-2 : tie.Need-returns-2
-returns-2 c =
-    let e = sym (c .before .present .ensures) ∙ c .if1 .left in
-    record { value = rw e; next = rw (e, add-zero); fits = one-le-pow (c .before .before .before .args .width) 256 (zero-lt-suc 255) }
+returns-2 c L ef ei =
+    let a = c .before .before .before .args in
+    taken-absent L (now (a .bytes)) (a .map) (a .bit) (a .at) (a .field) ef ei (c .before .before .before .pre .3) (sym (c .before .present .ensures) ∙ c .if1 .left)
 
 pub take-field-spec : {M : Type 1} → statement M
 take-field-spec =
     tie.close
-    (tie.spec (λ c κs. search needs) number-requires (λ c. search needs) returns returns-2)
+    (tie.spec (λ c κs. search needs) (λ c κs. search needs) (λ c. search needs) (λ c. search needs) mul-t12 add-t13 returns returns-2)

@@ -2,9 +2,9 @@
 
 use harness::accounts::{Account, Edit};
 use harness::calls::{self, Answer, RequestFields};
-use harness::limits::{ACCOUNT_LIMIT, LONGEST_RECORD, PLACE_SIZE, ROW_SIZE, TICKET_LIMIT};
+use harness::limits::{ACCOUNT_LIMIT, LONGEST_RECORD, PLACE_SIZE, ROW_WORDS, TICKET_LIMIT};
 use harness::record::{Origin, Ticket, NO_TRAIL};
-use harness::words::{count_held, place_at, row_at};
+use harness::words::{count_held, number_at, place_at, row_at};
 use harness::{library, service};
 use std::hint::black_box;
 
@@ -45,10 +45,12 @@ pub trait Side {
 /// The words that a call of the library may change, with where they stand.
 pub struct KeptWords {
     count: u64,
+    numbers_at: usize,
+    numbers: u64,
     place: usize,
     ticket: [u64; PLACE_SIZE],
     row: usize,
-    account: [u64; ROW_SIZE],
+    account: [u64; ROW_WORDS],
 }
 
 /// The same of the second implementation. A ticket behind the last one is no part of its state, but it
@@ -105,10 +107,13 @@ impl Side for library::Service {
 
     fn keep(&self, number: usize) -> KeptWords {
         // A full ledger has no place for a ticket, and its last one stands in.
-        let place = place_at(count_held(&self.ledger).min(TICKET_LIMIT - 1));
+        let next = count_held(&self.ledger).min(TICKET_LIMIT - 1);
+        let place = place_at(next);
         let row = row_at(number);
         KeptWords {
             count: self.ledger[0],
+            numbers_at: number_at(next),
+            numbers: self.ledger[number_at(next)],
             place,
             ticket: std::array::from_fn(|word| self.ledger[place + word]),
             row,
@@ -118,8 +123,9 @@ impl Side for library::Service {
 
     fn put_back(&mut self, kept: &KeptWords) {
         self.ledger[0] = kept.count;
+        self.ledger[kept.numbers_at] = kept.numbers;
         self.ledger[kept.place..][..PLACE_SIZE].copy_from_slice(&kept.ticket);
-        self.accounts[kept.row..][..ROW_SIZE].copy_from_slice(&kept.account);
+        self.accounts[kept.row..][..ROW_WORDS].copy_from_slice(&kept.account);
     }
 }
 

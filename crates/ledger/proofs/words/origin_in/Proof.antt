@@ -1,6 +1,5 @@
 use Rattle.definitions.specs.LedgerWords.{originIn}
 use borrow.Author.Tests.{eq-eqb, ne-eqb}
-use borrow.Author.Needs.{needs}
 use Rattle.ledger.proofs.words.origin_in.Statement.{statement}
 use Rattle.ledger.proofs.words.origin_in.Tie as tie
 
@@ -21,6 +20,4 @@ unfolding originIn
 returns-4 c = simp (ne-eqb _ _ (c .before .before .if1 .left), ne-eqb _ _ (c .before .if2 .left), ne-eqb _ _ (c .if3 .left))
 
 pub origin-in-spec : {M : Type 1} → statement M
-origin-in-spec =
-    tie.close
-    (tie.spec (λ c. search needs) (λ c. search needs) returns returns-2 returns-3 returns-4)
+origin-in-spec = tie.close (tie.spec returns returns-2 returns-3 returns-4)

@@ -5,7 +5,7 @@ use lib.ListN.{length, length-set}
 use lib.Seq.{sets}
 use Rattle.definitions.specs.Fields.{bigEndian}
 use Rattle.record.proofs.Cursor.{put-step}
-use Rattle.definitions.proofs.Output.{length-bigEndian}
+use Rattle.definitions.proofs.Fields.{length-bigEndian}
 use borrow.Author.Needs.{needs}
 use Rattle.record.proofs.writer.put.Statement.{statement}
 use Rattle.record.proofs.writer.put.Tie as tie

@@ -8,14 +8,13 @@ unfolding wellFormed
 returns c =
     simp (
       c .both2 .ensures,
-      c .before .zero-from .ensures,
-      c .before .before .before .both .ensures,
-      c .before .before .before .before .hops-fit .ensures,
-      c .before .before .before .before .before .service-fits .ensures,
+      c .before .zero-behind .ensures,
+      c .before .before .both .ensures,
+      c .before .before .before .hops-fit .ensures,
+      c .before .before .before .before .service-fits .ensures,
     )
 
 pub well-formed-spec : {M : Type 1} → statement M
 well-formed-spec =
     tie.close
-    (tie.spec (λ c κs. search needs) (λ c κs. search needs) (λ c κs. search needs) (λ c. search needs)
-    (λ c. search needs) (λ c κs. search needs) (λ c κs. search needs) returns)
+    (tie.spec (λ c κs. search needs) (λ c κs. search needs) (λ c κs. search needs) (λ c κs. search needs) (λ c κs. search needs) returns)

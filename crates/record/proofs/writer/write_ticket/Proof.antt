@@ -1,11 +1,9 @@
 use mathlib.Core.Path.{sym, _∙_}
-use native.Mathlib.Omega.{arith}
 use denote.Ref.{now}
 use borrow.Author.Tests.{not-true, not-false}
-use Rattle.definitions.specs.TicketRecords.{recordAs}
 use Rattle.definitions.proofs.TicketRecords.{well-hops}
 use Rattle.definitions.proofs.Output.{write-unwritable, write-short}
-use Rattle.record.proofs.Cursor.{wrote-record, wrote-then}
+use Rattle.record.proofs.Cursor.{wrote-record}
 use borrow.Author.Needs.{needs}
 use Rattle.record.proofs.writer.write_ticket.Statement.{statement}
 use Rattle.record.proofs.writer.write_ticket.Tie as tie
@@ -24,28 +22,22 @@ returns-2 c =
     let w = c .before .before .well-formed in
     write-short (a .t) (now (a .out)) (m .result) (m .ensures) (sym (w .ensures) ∙ not-false (w .result) (c .before .if1 .left)) (c .if2 .taken)
 
-put-tail-requires : tie.Need-put-tail-requires
-put-tail-requires c κs =
-    let m = c .before .before .before .before .before .before .before .before .map-for in
-    let w = c .before .before .before .before .before .before .before .well-formed in (
-      search needs,
-      omega (arith, c .before .before .before .put-head .kept .0, c .before .before .before .before .before .if2 .left),
-      well-hops (c .before .before .before .before .before .before .before .before .before .before .args .t) (m .result) (sym (w .ensures) ∙ not-false (w .result) (c .before .before .before .before .before .before .if1 .left)),
-    )
+put-record-requires : tie.Need-put-record-requires
+put-record-requires c κs =
+    let m = c .before .before .before .before .map-for in
+    let w = c .before .before .before .well-formed in
+    (search needs, well-hops (c .before .before .before .before .before .before .args .t) (m .result) (sym (w .ensures) ∙ not-false (w .result) (c .before .before .if1 .left)))
 
 returns-3 : tie.Need-returns-3
-unfolding recordAs
 returns-3 c =
-    let a = c .before .before .before .before .before .before .before .before .before .before .before .before .before .args in
-    let m = c .before .before .before .before .before .before .before .before .before .before .before .map-for in
-    let w = c .before .before .before .before .before .before .before .before .before .before .well-formed in
-    let p = c .before .before .put-tail in
+    let a = c .before .before .before .before .before .before .before .before .before .args in
+    let m = c .before .before .before .before .before .before .before .map-for in
+    let w = c .before .before .before .before .before .before .well-formed in
+    let p = c .before .before .put-record in
     wrote-record (a .t) (now (a .out)) (p .last .0) (m .result) (p .result) (m .ensures)
-    (sym (w .ensures) ∙ not-false (w .result) (c .before .before .before .before .before .before .before .before .before .if1 .left)) (c .before .before .before .before .before .before .before .before .if2 .left) (p .ensures .1)
-    (wrote-then (c .before .before .before .before .before .before .put-head .ensures .0) (p .ensures .0))
+    (sym (w .ensures) ∙ not-false (w .result) (c .before .before .before .before .before .if1 .left)) (c .before .before .before .before .if2 .left) (p .ensures .1) (p .ensures .0)
 
 pub write-ticket-spec : {M : Type 1} → statement M
 write-ticket-spec =
     tie.close
-    (tie.spec (λ c κs. search needs) (λ c κs. search needs) returns returns-2 (λ c κs. search needs) put-tail-requires
-    (λ c. search needs) returns-3)
+    (tie.spec (λ c κs. search needs) (λ c κs. search needs) returns returns-2 put-record-requires (λ c. search needs) returns-3)

@@ -1,16 +1,15 @@
-use Rattle.definitions.specs.Decisions.{tgtChecks}
 use borrow.Author.Needs.{needs}
 use Rattle.rules.proofs.check.check_tgt.Statement.{statement}
 use Rattle.rules.proofs.check.check_tgt.Tie as tie
+use Rattle.definitions.specs.Decisions.{tgtChecks}
 
 returns : tie.Need-returns
 unfolding tgtChecks
 returns c =
-    simp (c .unless4 .ensures, c .before .before .unless3 .ensures, c .before .before .before .unless2 .ensures, c .before .before .before .before .is-initial .ensures, c .before .before .before .before .before .is-held .ensures, c .before .before .before .before .before .before .check-window .ensures, c .before .before .before .before .before .before .before .unless .ensures, c .before .before .before .before .before .before .before .before .is-enabled .ensures, c .before .before .before .before .before .before .before .before .before .account-at .ensures)
+    simp (c .unless3 .ensures, c .before .unless2 .ensures, c .before .before .is-initial .ensures, c .before .before .before .is-held .ensures, c .before .before .before .before .check-window .ensures, c .before .before .before .before .before .unless .ensures, c .before .before .before .before .before .before .is-enabled .ensures)
 
 pub check-tgt-spec : {M : Type 1} → statement M
 check-tgt-spec =
     tie.close
-    (tie.spec (λ c. search needs) (λ c κs. search needs) (λ c κs. search needs) (λ c κs. search needs)
-    (λ c κs. search needs) (λ c κs. search needs) (λ c κs. search needs) (λ c κs. search needs) (λ c κs. search needs)
-    (λ c κs. search needs) returns)
+    (tie.spec (λ c κs. search needs) (λ c κs. search needs) (λ c κs. search needs) (λ c κs. search needs)
+    (λ c κs. search needs) (λ c κs. search needs) (λ c κs. search needs) returns)

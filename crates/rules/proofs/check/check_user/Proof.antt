@@ -1,7 +1,7 @@
-use Rattle.definitions.proofs.Decisions.{user-then}
 use borrow.Author.Needs.{needs}
 use Rattle.rules.proofs.check.check_user.Statement.{statement}
 use Rattle.rules.proofs.check.check_user.Tie as tie
+use Rattle.rules.proofs.Stages.{user-then}
 
 returns : tie.Need-returns
 returns c =

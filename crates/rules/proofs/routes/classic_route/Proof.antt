@@ -1,7 +1,7 @@
-use Rattle.definitions.specs.Routes.{classicRoute}
 use borrow.Author.Needs.{needs}
 use Rattle.rules.proofs.routes.classic_route.Statement.{statement}
 use Rattle.rules.proofs.routes.classic_route.Tie as tie
+use Rattle.definitions.specs.Routes.{classicRoute}
 
 returns : tie.Need-returns
 unfolding classicRoute
