@@ -4,6 +4,7 @@ use mathlib.Core.Bool.{Bool}
 use mathlib.Core.List.{List, [], _∷_, _++_}
 use Prim.Native.Nat.{ℕ, _-_}
 use lib.ListN.{length, replicate}
+use Rattle.definitions.specs.Limits.{longestRecord}
 use Rattle.definitions.specs.TicketRecords.{recordOf}
 use Rattle.definitions.specs.Accounts.{noRow, Table}
 use Rattle.definitions.specs.Edits.{editOf, editRow}
@@ -14,6 +15,10 @@ use Rattle.definitions.proofs.DecisionCases.{tech, web, store}
 -- a name that no account of the cases has
 abbrev pub ghost : List ℕ
 ghost = 0x67 ∷ 0x68 ∷ 0x6f ∷ 0x73 ∷ 0x74 ∷ []
+
+-- as many bytes of output as the longest record has
+abbrev pub enough : ℕ
+enough = longestRecord
 
 -- a ticket: number, flags, client, service, start, end, origin, the accounts of its trail, mark
 abbrev pub ticket : ℕ → ℕ → ℕ → ℕ → ℕ → ℕ → Origin → List ℕ → Bool → Ticket

@@ -2,7 +2,7 @@
 -- definitions, by evaluation.
 -- Assumes nothing.
 use mathlib.Core.Path.{_≡_, refl}
-use mathlib.Core.Bool.{Bool, true, false, cond}
+use mathlib.Core.Bool.{true, false}
 use mathlib.Core.List.{List, [], _∷_, _++_, map}
 use Prim.Native.Nat.{ℕ}
 use lib.ListN.{replicate, length}
@@ -19,14 +19,14 @@ use Rattle.definitions.specs.Decisions.{tgtChecks, evidenceChecks, userC
 use Rattle.definitions.specs.Routes.{classicRoute, resourceRoute, isPermitted, hasRoute}
 use Rattle.definitions.specs.Windows.{initialWindow, grantWindow, hopWindow}
 use Rattle.definitions.specs.NewTickets.{initialTicket, directTicket, s4u2selfTicket, s4u2proxyTicket}
-use Rattle.definitions.specs.HeldTickets.{firstHeld}
+use Rattle.definitions.specs.HeldTickets.{holds}
 use Rattle.definitions.specs.Answers.{decideRequest}
 use Rattle.definitions.specs.declared.decision.Decision.{Decision}
 use Rattle.definitions.specs.declared.ticket.Origin.{Origin}
 use Rattle.definitions.specs.declared.ticket.Origin.the-variants.{Initial, Direct, S4U2self, Delegated}
 use Rattle.definitions.specs.declared.ticket.Ticket.{Ticket}
 use Rattle.definitions.proofs.DecisionCases.{tech, web, store}
-use Rattle.definitions.proofs.CaseValues.{ticket, nothing, request-1, request-2, request-3, request-4}
+use Rattle.definitions.proofs.CaseValues.{ticket, nothing, request-1, request-2, request-3, request-4, enough}
 
 -- lifetimes of `tech`, `web` and `store`; `web` sends to `store`
 abbrev table : ℕ → ℕ → ℕ → Table
@@ -46,20 +46,20 @@ evidence end = ticket 1 0x40000000 0 1 600 end (Direct 0) [] false
 
 -- ---- The end of a ticket of each kind, by lifetime, ends and till; 0 where it is refused. The clock reads 1000
 abbrev end-1 : ℕ → List ℕ → ℕ
-end-1 life till = decideRequest (table life 9000 9000) [] 0 (request-1 nothing till tech) 1000 31 .ticket .window .end
+end-1 life till = decideRequest (table life 9000 9000) [] 0 (request-1 nothing till tech) 1000 enough .ticket .window .end
 
 abbrev end-2 : ℕ → ℕ → List ℕ → ℕ
 end-2 life end till =
-    decideRequest (table 9000 9000 life) (tgt end ∷ []) 1 (request-2 nothing till (tgt end) store) 1000 31 .ticket .window .end
+    decideRequest (table 9000 9000 life) (tgt end ∷ []) 1 (request-2 nothing till (tgt end) store) 1000 enough .ticket .window .end
 
 abbrev end-3 : ℕ → ℕ → List ℕ → ℕ
 end-3 life end till =
-    decideRequest (table 9000 life 9000) (tgt end ∷ []) 1 (request-3 nothing till (tgt end) tech) 1000 31 .ticket .window .end
+    decideRequest (table 9000 life 9000) (tgt end ∷ []) 1 (request-3 nothing till (tgt end) tech) 1000 enough .ticket .window .end
 
 abbrev end-4 : ℕ → ℕ → ℕ → List ℕ → ℕ
 end-4 life end evidence-end till =
     decideRequest (table 9000 9000 life) (tgt end ∷ evidence evidence-end ∷ []) 2
-    (request-4 cname nothing till (tgt end) (evidence evidence-end) store) 1000 31 .ticket .window .end
+    (request-4 cname nothing till (tgt end) (evidence evidence-end) store) 1000 enough .ticket .window .end
 
 -- tills: two seconds from now, now, and far off
 abbrev soon : List ℕ
@@ -74,9 +74,9 @@ late = 0x01 ∷ 0x00 ∷ 0x03 ∷ 0xE8 ∷ []
 -- an initial ticket of `tech` at a clock reading: answer and window
 abbrev at-clock : ℕ → ℕ → List ℕ
 at-clock clock life =
-    answerNumber (decideRequest (table life 0 0) [] 0 (request-1 nothing nothing tech) clock 31 .answer)
-    ∷ decideRequest (table life 0 0) [] 0 (request-1 nothing nothing tech) clock 31 .ticket .window .start
-    ∷ decideRequest (table life 0 0) [] 0 (request-1 nothing nothing tech) clock 31 .ticket .window .end ∷ []
+    answerNumber (decideRequest (table life 0 0) [] 0 (request-1 nothing nothing tech) clock enough .answer)
+    ∷ decideRequest (table life 0 0) [] 0 (request-1 nothing nothing tech) clock enough .ticket .window .start
+    ∷ decideRequest (table life 0 0) [] 0 (request-1 nothing nothing tech) clock enough .ticket .window .end ∷ []
 
 -- `store` asks, for `web`, to `tech`, which is a service here: a TGT, and evidence
 abbrev roles : Table
@@ -90,22 +90,22 @@ abbrev store-evidence : Ticket
 store-evidence = ticket 6 0x40000000 1 2 500 9000 (S4U2self 5) [] false
 
 abbrev role : List ℕ → Decision
-role bytes = decideRequest roles (store-tgt ∷ store-evidence ∷ []) 2 bytes 1000 31
+role bytes = decideRequest roles (store-tgt ∷ store-evidence ∷ []) 2 bytes 1000 enough
 
 -- the answers to a request where `tech`, `web` or `store` alone has no lifetime
 abbrev lives : List ℕ → List ℕ
 lives bytes =
-    map (λ rows. answerNumber (decideRequest rows (tgt 5000 ∷ evidence 5000 ∷ []) 2 bytes 1000 31 .answer))
+    map (λ rows. answerNumber (decideRequest rows (tgt 5000 ∷ evidence 5000 ∷ []) 2 bytes 1000 enough .answer))
     (table 0 100 100 ∷ table 100 0 100 ∷ table 100 100 0 ∷ [])
 
 -- ---- Answers
 -- kind 2 to a service, with a TGT, by what is held
 abbrev answer-2 : List Ticket → Ticket → ℕ → ℕ
-answer-2 tickets t clock = answerNumber (decideRequest (table 9000 9000 9000) tickets (length tickets) (request-2 nothing nothing t store) clock 31 .answer)
+answer-2 tickets t clock = answerNumber (decideRequest (table 9000 9000 9000) tickets (length tickets) (request-2 nothing nothing t store) clock enough .answer)
 
 -- kind 4 at 1000
 abbrev answer-4 : Table → List Ticket → Ticket → Ticket → ℕ
-answer-4 rows tickets t e = answerNumber (decideRequest rows tickets (length tickets) (request-4 cname nothing nothing t e store) 1000 31 .answer)
+answer-4 rows tickets t e = answerNumber (decideRequest rows tickets (length tickets) (request-4 cname nothing nothing t e store) 1000 enough .answer)
 
 -- kind 1 with so many tickets held and so much room
 abbrev answer-1 : ℕ → ℕ → ℕ
@@ -120,10 +120,10 @@ flagged flags0 flags1 flags2 =
 
 -- an answer of kind 2 and of kind 3 in such a table
 abbrev flagged-2 : ℕ → ℕ → ℕ
-flagged-2 flags1 flags2 = answerNumber (decideRequest (flagged 1 flags1 flags2) (tgt 5000 ∷ []) 1 (request-2 nothing nothing (tgt 5000) store) 1000 31 .answer)
+flagged-2 flags1 flags2 = answerNumber (decideRequest (flagged 1 flags1 flags2) (tgt 5000 ∷ []) 1 (request-2 nothing nothing (tgt 5000) store) 1000 enough .answer)
 
 abbrev flagged-3 : ℕ → ℕ → ℕ
-flagged-3 flags0 flags1 = answerNumber (decideRequest (flagged flags0 flags1 1) (tgt 5000 ∷ []) 1 (request-3 nothing nothing (tgt 5000) tech) 1000 31 .answer)
+flagged-3 flags0 flags1 = answerNumber (decideRequest (flagged flags0 flags1 1) (tgt 5000 ∷ []) 1 (request-3 nothing nothing (tgt 5000) tech) 1000 enough .answer)
 
 abbrev flagged-4 : ℕ → ℕ → ℕ → ℕ
 flagged-4 flags0 flags1 flags2 = answer-4 (flagged flags0 flags1 flags2) (tgt 5000 ∷ evidence 5000 ∷ []) (tgt 5000) (evidence 5000)
@@ -196,7 +196,7 @@ pub record CheckCases : Type 0 where
   pub output-room : answer-1 0 30 ∷ answer-1 0 31 ∷ answer-1 0 32 ∷ answer-1 0 0 ∷ [] ≡ 52 ∷ 0 ∷ 0 ∷ 52 ∷ []
 
 pub check-cases : CheckCases
-unfolding sameTicket hasBit numberAt bigEndian run offsetOf fieldOf fieldBytes knownMap hopsFit readableAs originAs trailOf readTicket recordAs mapFits pathOf embeddedOf wholeRequest requestFor readRequest lower agree sameName numberFrom tgtChecks evidenceChecks userChecks lastChecks classicRoute resourceRoute isPermitted hopChecks initialWindow grantWindow hopWindow initialTicket directTicket s4u2selfTicket s4u2proxyTicket initialChecks directChecks s4u2selfChecks s4u2proxyChecks decideInitial decideDirect decideS4U2self decideS4U2proxy firstHeld decideRequest openingChecks hasRoute pastField bytesTo
+unfolding sameTicket hasBit numberAt bigEndian run offsetOf fieldOf fieldBytes knownMap hopsFit readableAs originAs trailOf readTicket recordAs mapFits pathOf embeddedOf wholeRequest requestFor readRequest lower agree sameName numberFrom tgtChecks evidenceChecks userChecks lastChecks classicRoute resourceRoute isPermitted hopChecks initialWindow grantWindow hopWindow initialTicket directTicket s4u2selfTicket s4u2proxyTicket initialChecks directChecks s4u2selfChecks s4u2proxyChecks decideInitial decideDirect decideS4U2self decideS4U2proxy holds decideRequest openingChecks hasRoute pastField bytesTo
 check-cases =
     record {
       ends-1 = refl;

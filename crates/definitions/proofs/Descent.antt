@@ -1,7 +1,7 @@
 -- Laws of the descent call: what it answers at a ticket, from what it answers one step back (R7.4).
 -- Assumes nothing.
-use mathlib.Core.Path.{_≡_, refl, sym, ap, _∙_}
-use mathlib.Core.Bool.{Bool, true, false, cond, false≢true}
+use mathlib.Core.Path.{_≡_, refl, ap}
+use mathlib.Core.Bool.{Bool, true, false, cond}
 use mathlib.Core.List.{List}
 use mathlib.Core.Option.{Option, some, none}
 use Prim.Native.Nat.{ℕ, zero, suc, _+_, _≤_, _<_}
@@ -12,27 +12,9 @@ use Rattle.definitions.specs.Limits.{numberBits, numbersStart, two16}
 use Rattle.definitions.specs.Words.{laneAt}
 use Rattle.definitions.proofs.Words.{lane-at-small}
 use Rattle.definitions.specs.declared.ticket.Ticket.{Ticket}
-use Rattle.definitions.specs.declared.decision.Held.{Held}
 use Rattle.definitions.specs.LedgerWords.{ticketIn, ticketAt, countHeld, ticketsFrom, ticketsOf}
-use Rattle.definitions.specs.HeldTickets.{heldOf, firstHeld, firstTicket}
+use Rattle.definitions.specs.HeldTickets.{firstTicket}
 use Rattle.definitions.specs.Descent.{backOf, more, backBy, backFrom, stepsWithin, descent}
-
--- what a look-up tells
-pub not-there : (l : List Ticket) (n : ℕ) (h : Held) → h ≡ firstHeld l n → h .found ≡ false → firstTicket n l ≡ none
-unfolding firstHeld
-not-there l n h e k = by (firstTicket n l) (sym (ap (λ (x : Held). x .found) e) ∙ k)
-  where
-    by : (o : Option Ticket) → heldOf o .found ≡ false → o ≡ none
-    by none q = refl
-    by (some t) q = absurd (false≢true (sym q))
-
-pub is-there : (l : List Ticket) (n : ℕ) (h : Held) → h ≡ firstHeld l n → h .found ≡ true → firstTicket n l ≡ some (h .ticket)
-unfolding firstHeld
-is-there l n h e k = by (firstTicket n l) e
-  where
-    by : (o : Option Ticket) → h ≡ heldOf o → o ≡ some (h .ticket)
-    by none q = absurd (false≢true (sym (ap (λ (x : Held). x .found) q) ∙ k))
-    by (some t) q = ap some (sym (ap (λ (x : Held). x .ticket) q))
 
 -- the count does not depend on how many steps are allowed, if they are enough
 by-option : (n : ℕ) (f g : ℕ → Option ℕ) (o : Option ℕ) → ((k : ℕ) → k < n → f k ≡ g k) → backBy n f o ≡ backBy n g o

@@ -3,7 +3,7 @@
 -- Assumes nothing.
 use mathlib.Core.Path.{_≡_, refl}
 use mathlib.Core.Bool.{Bool, true, false, cond}
-use mathlib.Core.List.{List, [], _∷_, _++_, map}
+use mathlib.Core.List.{List, [], _∷_, _++_}
 use Prim.Native.Nat.{ℕ, _+_}
 use lib.ListN.{replicate}
 use Rattle.definitions.specs.Errors.{answerNumber}
@@ -18,14 +18,13 @@ use Rattle.definitions.specs.Decisions.{tgtChecks, evidenceChecks, userC
 use Rattle.definitions.specs.Routes.{classicRoute, resourceRoute, isPermitted, hasRoute}
 use Rattle.definitions.specs.Windows.{initialWindow, grantWindow, hopWindow}
 use Rattle.definitions.specs.NewTickets.{initialTicket, directTicket, s4u2selfTicket, s4u2proxyTicket}
-use Rattle.definitions.specs.HeldTickets.{firstHeld}
+use Rattle.definitions.specs.HeldTickets.{holds}
 use Rattle.definitions.specs.Answers.{decideRequest}
 use Rattle.definitions.specs.declared.decision.Decision.{Decision}
-use Rattle.definitions.specs.declared.ticket.Origin.{Origin}
 use Rattle.definitions.specs.declared.ticket.Origin.the-variants.{Initial, Direct, S4U2self, Delegated}
 use Rattle.definitions.specs.declared.ticket.Ticket.{Ticket}
 use Rattle.definitions.proofs.DecisionCases.{tech, web, store}
-use Rattle.definitions.proofs.CaseValues.{ticket, nothing, request-1, request-2, request-3, request-4}
+use Rattle.definitions.proofs.CaseValues.{ticket, nothing, request-1, request-2, request-3, request-4, enough}
 
 -- `tech`, `web`, `store` with these flags, sets of `web` and of `store`, and a lifetime for each
 abbrev table : ℕ → ℕ → ℕ → ℕ → ℕ → Table
@@ -64,17 +63,17 @@ third = ticket 9 0 2 0 0 0 Initial [] false
 
 -- a request of each kind at 1000, for `tech` or to `store`
 abbrev kind-1 : ℕ → List ℕ → Decision
-kind-1 flags0 options = decideRequest (table flags0 12 8 0 0) (third ∷ third ∷ third ∷ []) 3 (request-1 options nothing tech) 1000 31
+kind-1 flags0 options = decideRequest (table flags0 12 8 0 0) (third ∷ third ∷ third ∷ []) 3 (request-1 options nothing tech) 1000 enough
 
 abbrev kind-2 : ℕ → ℕ → Ticket → List ℕ → Decision
-kind-2 flags1 flags2 t options = decideRequest (table 2 flags1 flags2 0 0) (third ∷ t ∷ third ∷ []) 3 (request-2 options nothing t store) 1000 31
+kind-2 flags1 flags2 t options = decideRequest (table 2 flags1 flags2 0 0) (third ∷ t ∷ third ∷ []) 3 (request-2 options nothing t store) 1000 enough
 
 abbrev kind-3 : ℕ → ℕ → ℕ → Ticket → List ℕ → Decision
 kind-3 flags0 flags1 send t options =
-    decideRequest (table flags0 flags1 8 send 0) (third ∷ t ∷ third ∷ []) 3 (request-3 options nothing t tech) 1000 31
+    decideRequest (table flags0 flags1 8 send 0) (third ∷ t ∷ third ∷ []) 3 (request-3 options nothing t tech) 1000 enough
 
 abbrev kind-4 : Table → List ℕ → List ℕ → Ticket → Ticket → Decision
-kind-4 rows options pac t e = decideRequest rows (third ∷ e ∷ t ∷ []) 3 (request-4 options pac nothing t e store) 1000 31
+kind-4 rows options pac t e = decideRequest rows (third ∷ e ∷ t ∷ []) 3 (request-4 options pac nothing t e store) 1000 enough
 
 -- what each gives
 abbrev first-ticket : ℕ → Bool → Decision
@@ -192,7 +191,7 @@ pub record GrantCases : Type 0 where
   pub hop-ninth : number (kind-4 classic cname nothing (tgt 0 false) (hopped (replicate 8 1))) ≡ 61
 
 pub grant-cases : GrantCases
-unfolding sameTicket hasBit numberAt bigEndian run offsetOf fieldOf fieldBytes knownMap hopsFit readableAs originAs trailOf readTicket recordAs mapFits pathOf embeddedOf wholeRequest requestFor readRequest lower agree sameName numberFrom tgtChecks evidenceChecks userChecks lastChecks classicRoute resourceRoute isPermitted hopChecks initialWindow grantWindow hopWindow initialTicket directTicket s4u2selfTicket s4u2proxyTicket initialChecks directChecks s4u2selfChecks s4u2proxyChecks decideInitial decideDirect decideS4U2self decideS4U2proxy firstHeld decideRequest openingChecks hasRoute pastField bytesTo
+unfolding sameTicket hasBit numberAt bigEndian run offsetOf fieldOf fieldBytes knownMap hopsFit readableAs originAs trailOf readTicket recordAs mapFits pathOf embeddedOf wholeRequest requestFor readRequest lower agree sameName numberFrom tgtChecks evidenceChecks userChecks lastChecks classicRoute resourceRoute isPermitted hopChecks initialWindow grantWindow hopWindow initialTicket directTicket s4u2selfTicket s4u2proxyTicket initialChecks directChecks s4u2selfChecks s4u2proxyChecks decideInitial decideDirect decideS4U2self decideS4U2proxy holds decideRequest openingChecks hasRoute pastField bytesTo
 grant-cases =
     record {
       all-1 = refl;

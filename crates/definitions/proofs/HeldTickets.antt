@@ -11,8 +11,7 @@ use lib.Dec.{eqb}
 use native.Mathlib.Omega.{arith}
 use Rattle.definitions.proofs.Equality.{decides-ticket}
 use Rattle.definitions.specs.declared.ticket.Ticket.{Ticket}
-use Rattle.definitions.specs.Decisions.{isHeld}
-use Rattle.definitions.specs.HeldTickets.{firstOf, heldOf, firstHeld, firstTicket}
+use Rattle.definitions.specs.HeldTickets.{firstOf, isTicket, holds, firstTicket}
 
 none-some : {A : Type 0} {B : Type 0} {b : B} → _≡_ {A = Option B} none (some b) → A
 none-some e = let z : _≡_ {A = ℕ} 0 1 = cc in absurd (omega arith)
@@ -57,10 +56,10 @@ first-map num f n (x ∷ xs) = go (eqb (num (f x)) n) (first-map num f n xs)
     go false k = k
 
 -- a ticket that is held is the first of its number
-pub held-first : (l : List Ticket) (n : ℕ) (t : Ticket) → isHeld (firstHeld l n) t ≡ true → firstTicket n l ≡ some t
-unfolding firstHeld
-held-first l n t e = by (firstTicket n l) e
+pub held-first : (l : List Ticket) (t : Ticket) → holds l t ≡ true → firstTicket (t .number) l ≡ some t
+unfolding holds
+held-first l t e = by (firstTicket (t .number) l) e
   where
-    by : (o : Option Ticket) → isHeld (heldOf o) t ≡ true → o ≡ some t
+    by : (o : Option Ticket) → isTicket o t ≡ true → o ≡ some t
     by none q = absurd (false≢true q)
     by (some u) q = ap some (decides-ticket u t .sound q)

@@ -20,12 +20,12 @@ use Rattle.definitions.specs.Decisions.{tgtChecks, evidenceChecks, userC
 use Rattle.definitions.specs.Routes.{classicRoute, resourceRoute, isPermitted, hasRoute}
 use Rattle.definitions.specs.Windows.{initialWindow, grantWindow, hopWindow}
 use Rattle.definitions.specs.NewTickets.{initialTicket, directTicket, s4u2selfTicket, s4u2proxyTicket}
-use Rattle.definitions.specs.HeldTickets.{heldTicket, notHeld, firstHeld}
+use Rattle.definitions.specs.HeldTickets.{holds, firstTicket}
 use Rattle.definitions.specs.Totals.{dayTotal}
 use Rattle.definitions.specs.Descent.{descent, descended}
 use Rattle.definitions.specs.Words.{laneOf, lanesOf, packAt, setLane, laneAt, putLane, putRow}
 use Rattle.definitions.specs.AccountWords.{rowWord, nameAt, rowAt, rowsFrom, tableOf, storeRow, storedBy, noAccountWords}
-use Rattle.definitions.specs.LedgerWords.{originIn, ticketIn, ticketAt, countHeld, nextNumber, heldAt, ticketsFrom, ticketsOf, storeTicket, noTicketWords}
+use Rattle.definitions.specs.LedgerWords.{originIn, ticketIn, ticketAt, countHeld, nextNumber, ticketsFrom, ticketsOf, storeTicket, noTicketWords}
 use Rattle.definitions.specs.Answers.{Call, edit, request, Reply, decideRequest, laid}
 use Rattle.definitions.specs.Book.{Note, requestOf, tickets, emptyBook, after, replies}
 use Rattle.definitions.specs.Services.{freshService, withGrant}
@@ -122,10 +122,10 @@ noted-bar note = isBarred (accountAt (note .table) 0)
 
 pub record LedgerCases : Type 0 where
   -- R7.1: the first ticket of a number; nothing of one that no ticket has
-  pub first-held : firstHeld ledger 1 ≡ heldTicket (of-origin 1 (Direct 0))
-  pub none-held : firstHeld ledger 9 ∷ firstHeld [] 0 ∷ [] ≡ notHeld ∷ notHeld ∷ []
-  pub held-found : (firstHeld ledger 1 .found) ∷ (firstHeld ledger 9 .found) ∷ [] ≡ true ∷ false ∷ []
-  pub none-blank : firstHeld ledger 9 .ticket ≡ ticket 0 0 0 0 0 0 Initial [] false
+  pub first-held : firstTicket 1 ledger ≡ some (of-origin 1 (Direct 0))
+  pub none-held : firstTicket 9 ledger ∷ firstTicket 0 [] ∷ [] ≡ none ∷ none ∷ []
+  -- R5.1: a ticket is held as it is, and not with another origin, nor under a number that no ticket has
+  pub held-so : map (holds ledger) (of-origin 1 (Direct 0) ∷ of-origin 1 Initial ∷ of-origin 9 (Direct 0) ∷ []) ≡ true ∷ false ∷ false ∷ []
   -- R7.4: steps over evidence, or TGT, to an initial ticket; none where a number is not held or does not fall
   pub steps : map (descent ledger) (0 ∷ 1 ∷ 2 ∷ 3 ∷ 4 ∷ 7 ∷ 12 ∷ []) ≡ some 0 ∷ some 1 ∷ some 2 ∷ some 3 ∷ some 4 ∷ some 5 ∷ some 1 ∷ []
   pub no-steps : map (descent ledger) (5 ∷ 6 ∷ 8 ∷ 9 ∷ 20 ∷ 10 ∷ 21 ∷ []) ≡ replicate 7 none
@@ -135,7 +135,6 @@ pub record LedgerCases : Type 0 where
   pub totals : dayTotal [] ∷ dayTotal (valid 5 7 ∷ []) ∷ dayTotal (valid 7 5 ∷ []) ∷ dayTotal (valid 0 10 ∷ valid 9 9 ∷ valid 7 5 ∷ valid 1 4294967295 ∷ valid 5 7 ∷ []) ∷ [] ≡ 0 ∷ 2 ∷ 0 ∷ 4294967306 ∷ []
   -- R7.1, R7.3: the words hold the tickets put in, in their order; a count beyond the places reads as 512
   pub tickets-stored : ticketsOf (storeTicket (storeTicket (storeTicket (storeTicket noTicketWords a) b) c) d) ≡ a ∷ b ∷ c ∷ d ∷ []
-  pub held-places : heldAt (storeTicket (storeTicket noTicketWords a) b) 0 ∷ heldAt (storeTicket (storeTicket noTicketWords a) b) 1 ∷ heldAt (storeTicket (storeTicket noTicketWords a) b) 2 ∷ [] ≡ heldTicket a ∷ heldTicket b ∷ notHeld ∷ []
   pub origins-in : map (λ tag. originIn tag 0xBBBB 0xAAAA) (0 ∷ 1 ∷ 2 ∷ 3 ∷ 4 ∷ 15 ∷ []) ≡ Initial ∷ Direct 0xBBBB ∷ S4U2self 0xBBBB ∷ Delegated 0xBBBB 0xAAAA ∷ Delegated 0xBBBB 0xAAAA ∷ Delegated 0xBBBB 0xAAAA ∷ []
   pub tags-in : map (λ first. ticketIn 0 first 0 0xAAAABBBBCCDDEEFF 0 .origin) (0xF0FFFFFFFFFFFFFF ∷ 0xF1FFFFFFFFFFFFFF ∷ 0x02 ∷ []) ≡ Initial ∷ Direct 0xBBBB ∷ Initial ∷ []
   pub marks-in : map (λ first. ticketIn 0 first 0 0 0 .barred) (0 ∷ 0x1000000000000000 ∷ 0x2000000000000000 ∷ 0xF000000000000000 ∷ 0x1FFFFFFFFFFFFFFF ∷ []) ≡ false ∷ true ∷ false ∷ false ∷ true ∷ []
@@ -188,20 +187,18 @@ pub record LedgerCases : Type 0 where
   pub entry-service : map serviceIn (record { ticket = a; table = []; resource = false } ∷ []) ≡ 0x08 ∷ []
 
 pub ledger-cases : LedgerCases
-unfolding sameTicket hasBit numberAt bigEndian run offsetOf fieldOf fieldBytes knownMap hopsFit readableAs originAs trailOf readTicket recordAs mapFits pathOf embeddedOf wholeRequest requestFor readRequest goodBytes goodName lower agree sameName numberFrom nameTaken editChecks tgtChecks evidenceChecks userChecks lastChecks classicRoute resourceRoute isPermitted hopChecks initialWindow grantWindow hopWindow initialTicket directTicket s4u2selfTicket s4u2proxyTicket initialChecks directChecks s4u2selfChecks s4u2proxyChecks decideInitial decideDirect decideS4U2self decideS4U2proxy firstHeld dayTotal descent packAt putRow nameAt rowAt rowsFrom storeRow originIn ticketIn ticketAt heldAt ticketsFrom ticketsOf storeTicket decideRequest openingChecks hasRoute pastField bytesTo laneOf lanesOf setLane laneAt putLane
+unfolding sameTicket hasBit numberAt bigEndian run offsetOf fieldOf fieldBytes knownMap hopsFit readableAs originAs trailOf readTicket recordAs mapFits pathOf embeddedOf wholeRequest requestFor readRequest goodBytes goodName lower agree sameName numberFrom nameTaken editChecks tgtChecks evidenceChecks userChecks lastChecks classicRoute resourceRoute isPermitted hopChecks initialWindow grantWindow hopWindow initialTicket directTicket s4u2selfTicket s4u2proxyTicket initialChecks directChecks s4u2selfChecks s4u2proxyChecks decideInitial decideDirect decideS4U2self decideS4U2proxy holds dayTotal descent packAt putRow nameAt rowAt rowsFrom storeRow originIn ticketIn ticketAt ticketsFrom ticketsOf storeTicket decideRequest openingChecks hasRoute pastField bytesTo laneOf lanesOf setLane laneAt putLane
 ledger-cases =
     record {
       first-held = refl;
       none-held = refl;
-      held-found = refl;
-      none-blank = refl;
+      held-so = refl;
       steps = refl;
       no-steps = refl;
       long-way = refl;
       descents = refl;
       totals = refl;
       tickets-stored = refl;
-      held-places = refl;
       origins-in = refl;
       tags-in = refl;
       marks-in = refl;

@@ -2,6 +2,7 @@
 -- Assumes nothing.
 use mathlib.Core.Path.{_≡_, refl, sym, ap, _∙_}
 use mathlib.Core.Bool.{Bool, true, false}
+use mathlib.Core.Option.{some, none}
 use mathlib.Core.List.{List, [], _∷_, _++_}
 use Prim.Native.Nat.{ℕ, zero, suc, _+_, _-_, _*_, _/_, _%_, _≤_, _<_}
 use native.Mathlib.Nat.{add-zero, zero-add, min-eq-right}
@@ -22,7 +23,7 @@ use Rattle.definitions.specs.Words.{wordOfLane, laneAt, putLane}
 use Rattle.definitions.proofs.Words.{put-length, put-other, put-at, lane-length, lane-word, lane-put, lane-kept, lanes-packed}
 use Rattle.definitions.specs.LedgerWords.{originIn, ticketIn, ticketAt, countHeld, ticketsFrom, ticketsOf, tagOf, markOf, ticketWords, storeTicket, noTicketWords, nextNumber, placeStart, placeWord, putTicket}
 use borrow.Author.Tests.{eq-eqb, ne-eqb}
-use Rattle.definitions.specs.HeldTickets.{heldTicket, notHeld, firstHeld}
+use Rattle.definitions.specs.HeldTickets.{firstTicket}
 
 -- the tickets of n places
 tickets-from-length : (w : List ℕ) (i n : ℕ) → length (ticketsFrom w i n) ≡ n
@@ -241,23 +242,23 @@ module _ (w : List ℕ) (t : Ticket) (l : length w ≡ ledgerSize) (h : countHel
 
 module _ (w : List ℕ) (i n number : ℕ) where
   -- the place has the number
-  pub first-here : i < n → ticketAt w i .number ≡ number → firstHeld (ticketsFrom w i (n - i)) number ≡ heldTicket (ticketAt w i)
-  unfolding ticketsFrom firstHeld
+  pub first-here : i < n → ticketAt w i .number ≡ number → firstTicket number (ticketsFrom w i (n - i)) ≡ some (ticketAt w i)
+  unfolding ticketsFrom
   first-here h e =
       let s : n - i ≡ suc (n - (i + 1)) = omega arith in
       rw (s, eq-eqb (ticketAt w i .number) number e)
 
   -- it has another
   pub first-on : i < n → (ticketAt w i .number ≡ number → ⊥)
-      → firstHeld (ticketsFrom w i (n - i)) number ≡ firstHeld (ticketsFrom w (i + 1) (n - (i + 1))) number
-  unfolding ticketsFrom firstHeld
+      → firstTicket number (ticketsFrom w i (n - i)) ≡ firstTicket number (ticketsFrom w (i + 1) (n - (i + 1)))
+  unfolding ticketsFrom
   first-on h e =
       let s : n - i ≡ suc (n - (i + 1)) = omega arith in
       rw (s, ne-eqb (ticketAt w i .number) number e)
 
   -- no place is left
-  pub first-end : n ≤ i → firstHeld (ticketsFrom w i (n - i)) number ≡ notHeld
-  unfolding ticketsFrom firstHeld
+  pub first-end : n ≤ i → firstTicket number (ticketsFrom w i (n - i)) ≡ none
+  unfolding ticketsFrom
   first-end h =
       let s : n - i ≡ 0 = omega arith in
       rw s

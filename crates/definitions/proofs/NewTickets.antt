@@ -73,20 +73,10 @@ flags-fit true false = record { fits = lit< tt }
 flags-fit false true = record { fits = lit< tt }
 flags-fit false false = record { fits = lit< tt }
 
-pub initial-well : (n f c : ℕ) (w : Window) (b : Bool) → wellFormed (withoutTrail n f c 0 w Initial b) (mapFor Initial b) ≡ true
-unfolding wellFormed serviceFits hopsFit allZero hasBit
-initial-well n f c w true = refl
-initial-well n f c w false = refl
-
-pub direct-well : (n f c s g : ℕ) (w : Window) (b : Bool) → wellFormed (withoutTrail n f c s w (Direct g) b) (mapFor (Direct g) b) ≡ true
-unfolding wellFormed serviceFits hopsFit allZero hasBit
-direct-well n f c s g w true = refl
-direct-well n f c s g w false = refl
-
-pub s4u2self-well : (n f c s g : ℕ) (w : Window) (b : Bool) → wellFormed (withoutTrail n f c s w (S4U2self g) b) (mapFor (S4U2self g) b) ≡ true
-unfolding wellFormed serviceFits hopsFit allZero hasBit
-s4u2self-well n f c s g w true = refl
-s4u2self-well n f c s g w false = refl
+-- a ticket is well formed whatever its mark, if it is with either
+by-mark : (t : Ticket) (o : Origin) (b : Bool) → wellFormed t (mapFor o true) ≡ true → wellFormed t (mapFor o false) ≡ true → wellFormed t (mapFor o b) ≡ true
+by-mark t o true x y = x
+by-mark t o false x y = y
 
 without-trail-range : (m : Moment) (f c s : ℕ) (w : Window) (o : Origin) (b : Bool) → MomentFits m → WindowFits (m .clock) w → Fits w32 f → Fits w8 c → Fits w8 s
     → Fits w16 (tgtOf o) → Fits w16 (evidenceOf o) → InRange (withoutTrail (m .next) f c s w o b)
@@ -116,18 +106,18 @@ number-fits8 n h = record { fits = omega arith }
 
 pub initial-writable : (m : Moment) (f : Bool) (till : ℕ) (u : Named) → MomentFits m → u .number ≤ accountLimit
     → Writable (initialTicket (m .next) f u (initialWindow (m .clock) (u .account .lifetime) till))
-unfolding initialTicket
+unfolding initialTicket wellFormed serviceFits hopsFit allZero hasBit
 initial-writable m f till u k h =
     record {
       in-range =
           without-trail-range m _ (u .number) 0 _ Initial (isBarred (u .account)) k (initial-fits (m .clock) (u .account .lifetime) till)
           (flags-fit (f && not (isBarred (u .account))) true) (number-fits8 (u .number) h) zero8 zero16 zero16;
-      well-formed = initial-well (m .next) _ (u .number) _ (isBarred (u .account));
+      well-formed = by-mark (initialTicket (m .next) f u (initialWindow (m .clock) (u .account .lifetime) till)) Initial (isBarred (u .account)) refl refl;
     }
 
 pub direct-writable : (m : Moment) (f : Bool) (till : ℕ) (g : Presented) (s : Named) → MomentFits m → s .number ≤ accountLimit → InRange (g .ticket)
     → Writable (directTicket (m .next) f (g .ticket) (g .client) (s .number) (windowOf m (s .account) till g))
-unfolding directTicket
+unfolding directTicket wellFormed serviceFits hopsFit allZero hasBit
 direct-writable m f till g s k h r =
     let b = directMark (g .client) (g .ticket) in
     record {
@@ -135,12 +125,12 @@ direct-writable m f till g s k h r =
           without-trail-range m _ (g .ticket .client) (s .number) _ (Direct (g .ticket .number)) b k
           (grant-fits (m .clock) (s .account .lifetime) till (g .ticket .window .end))
           (flags-fit (f && (isForwardable (g .ticket .flags) && not b)) false) (r .client) (number-fits8 (s .number) h) (r .number) zero16;
-      well-formed = direct-well (m .next) _ (g .ticket .client) (s .number) (g .ticket .number) _ b;
+      well-formed = by-mark (directTicket (m .next) f (g .ticket) (g .client) (s .number) (windowOf m (s .account) till g)) (Direct (g .ticket .number)) b refl refl;
     }
 
 pub s4u2self-writable : (m : Moment) (f : Bool) (till : ℕ) (g : Presented) (u : Named) → MomentFits m → u .number ≤ accountLimit → InRange (g .ticket)
     → Writable (s4u2selfTicket (m .next) f (g .ticket) (g .client) u (windowOf m (g .client) till g))
-unfolding s4u2selfTicket
+unfolding s4u2selfTicket wellFormed serviceFits hopsFit allZero hasBit
 s4u2self-writable m f till g u k h r =
     let b = isBarred (u .account) in
     record {
@@ -148,7 +138,7 @@ s4u2self-writable m f till g u k h r =
           without-trail-range m _ (u .number) (g .ticket .client) _ (S4U2self (g .ticket .number)) b k
           (grant-fits (m .clock) (g .client .lifetime) till (g .ticket .window .end))
           (flags-fit (not b && s4u2selfForwardable (g .client) f (g .ticket)) false) (number-fits8 (u .number) h) (r .client) (r .number) zero16;
-      well-formed = s4u2self-well (m .next) _ (u .number) (g .ticket .client) (g .ticket .number) _ b;
+      well-formed = by-mark (s4u2selfTicket (m .next) f (g .ticket) (g .client) u (windowOf m (g .client) till g)) (S4U2self (g .ticket .number)) b refl refl;
     }
 
 pub bytes-set : (xs : List ℕ) (i x : ℕ) → Bytes xs → Fits w8 x → Bytes (set xs i x)

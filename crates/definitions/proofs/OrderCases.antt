@@ -4,7 +4,7 @@
 -- Assumes nothing.
 use mathlib.Core.Path.{_≡_, refl}
 use mathlib.Core.Bool.{Bool, true, false, cond}
-use mathlib.Core.List.{List, [], _∷_, _++_, map}
+use mathlib.Core.List.{List, [], _∷_, _++_}
 use Prim.Native.Nat.{ℕ, zero, suc, _-_}
 use lib.ListN.{getD, length, replicate}
 use Rattle.definitions.specs.Errors.{answerNumber}
@@ -20,14 +20,14 @@ use Rattle.definitions.specs.Decisions.{tgtChecks, evidenceChecks, userC
 use Rattle.definitions.specs.Routes.{classicRoute, resourceRoute, isPermitted, hasRoute}
 use Rattle.definitions.specs.Windows.{initialWindow, grantWindow, hopWindow}
 use Rattle.definitions.specs.NewTickets.{initialTicket, directTicket, s4u2selfTicket, s4u2proxyTicket}
-use Rattle.definitions.specs.HeldTickets.{firstHeld}
+use Rattle.definitions.specs.HeldTickets.{holds}
 use Rattle.definitions.specs.Answers.{decideRequest}
 use Rattle.definitions.specs.declared.error.Error.the-variants.{«KRB_ERR_GENERIC», «KRB_ERR_RESPONSE_TOO_BIG»}
 use Rattle.definitions.specs.declared.ticket.Origin.the-variants.{Initial, Direct, S4U2self, Delegated}
 use Rattle.definitions.specs.declared.ticket.Ticket.{Ticket}
 use Rattle.definitions.specs.declared.ticket.Written.the-variants.{Length, Refused}
 use Rattle.definitions.proofs.DecisionCases.{tech, web, store}
-use Rattle.definitions.proofs.CaseValues.{ghost, ticket, accounts, nothing, request-1, request-2, request-3, request-4}
+use Rattle.definitions.proofs.CaseValues.{ghost, ticket, accounts, nothing, request-1, request-2, request-3, request-4, enough}
 
 -- ---- Which checks fail: a Bool for each, in their order
 -- the check of a place fails
@@ -55,9 +55,9 @@ onward answers n = runs answers n 0 n
 abbrev spoilt : Bool → List ℕ → List ℕ
 spoilt fault bytes = bytes ++ cond fault (0x00 ∷ []) []
 
--- 52: an output of 30 bytes
+-- 52: an output that is a byte short
 abbrev room : Bool → ℕ
-room fault = cond fault 30 31
+room fault = cond fault (enough - 1) enough
 
 -- 11: a till that is now
 abbrev till : Bool → List ℕ
@@ -149,13 +149,13 @@ pub record Order : Type 0 where
   pub edit-12-8 : edited 1 tech 12 ≡ 12
   pub edit-60-12-8 : edited 1 tech 16 ≡ 60
   -- R3.7: an initial ticket to a service is 60 before 52; with no service it is 52, and then a record of 17 bytes
-  pub write-60-52 : writtenOf (ticket 0 0 1 2 0 0 Initial [] false) 30 ≡ Refused «KRB_ERR_GENERIC»
-  pub write-60 : writtenOf (ticket 0 0 1 2 0 0 Initial [] false) 31 ≡ Refused «KRB_ERR_GENERIC»
-  pub write-52 : writtenOf (ticket 0 0 1 0 0 0 Initial [] false) 30 ≡ Refused «KRB_ERR_RESPONSE_TOO_BIG»
-  pub write-0 : writtenOf (ticket 0 0 1 0 0 0 Initial [] false) 31 ≡ Length 17
+  pub write-60-52 : writtenOf (ticket 0 0 1 2 0 0 Initial [] false) (enough - 1) ≡ Refused «KRB_ERR_GENERIC»
+  pub write-60 : writtenOf (ticket 0 0 1 2 0 0 Initial [] false) enough ≡ Refused «KRB_ERR_GENERIC»
+  pub write-52 : writtenOf (ticket 0 0 1 0 0 0 Initial [] false) (enough - 1) ≡ Refused «KRB_ERR_RESPONSE_TOO_BIG»
+  pub write-0 : writtenOf (ticket 0 0 1 0 0 0 Initial [] false) enough ≡ Length 17
 
 pub order : Order
-unfolding sameTicket hasBit numberAt bigEndian run offsetOf fieldOf fieldBytes knownMap hopsFit readableAs originAs trailOf readTicket recordAs allZero serviceFits wellFormed writtenOf mapFits pathOf embeddedOf wholeRequest requestFor readRequest goodBytes goodName lower agree sameName numberFrom nameTaken editChecks tgtChecks evidenceChecks userChecks lastChecks classicRoute resourceRoute isPermitted hopChecks initialWindow grantWindow hopWindow initialTicket directTicket s4u2selfTicket s4u2proxyTicket initialChecks directChecks s4u2selfChecks s4u2proxyChecks decideInitial decideDirect decideS4U2self decideS4U2proxy firstHeld decideRequest openingChecks hasRoute pastField bytesTo
+unfolding sameTicket hasBit numberAt bigEndian run offsetOf fieldOf fieldBytes knownMap hopsFit readableAs originAs trailOf readTicket recordAs allZero serviceFits wellFormed writtenOf mapFits pathOf embeddedOf wholeRequest requestFor readRequest goodBytes goodName lower agree sameName numberFrom nameTaken editChecks tgtChecks evidenceChecks userChecks lastChecks classicRoute resourceRoute isPermitted hopChecks initialWindow grantWindow hopWindow initialTicket directTicket s4u2selfTicket s4u2proxyTicket initialChecks directChecks s4u2selfChecks s4u2proxyChecks decideInitial decideDirect decideS4U2self decideS4U2proxy holds decideRequest openingChecks hasRoute pastField bytesTo
 order =
     record {
       alone-1 = refl;

@@ -1,9 +1,9 @@
 -- Cases of the readers and the writer (sections 3 and 4 of the rules), and of the error numbers (R6.8), over the definitions, by evaluation.
 -- Assumes nothing.
 use mathlib.Core.Path.{_≡_, refl}
-use mathlib.Core.Bool.{Bool, true, false, cond}
+use mathlib.Core.Bool.{Bool, true, false}
 use mathlib.Core.List.{List, [], _∷_, _++_, map}
-use Prim.Native.Nat.{ℕ, _+_}
+use Prim.Native.Nat.{ℕ, _+_, _-_}
 use lib.ListN.{length, replicate}
 use Rattle.definitions.specs.Errors.{errorNumber, answerNumber, isAccepted}
 use Rattle.definitions.specs.Checks.{andThen}
@@ -11,7 +11,6 @@ use Rattle.definitions.specs.Fields.{hasBit, numberAt, bigEndian, run, p
 use Rattle.definitions.specs.TicketRecords.{knownMap, hopsFit, readableAs, originAs, trailOf, accepted, refused, readTicket, allZero, serviceFits, wellFormed, recordAs, recordOf, blankTicket}
 use Rattle.definitions.specs.Output.{writtenOf, outputOf}
 use Rattle.definitions.specs.Requests.{mapFits, pathOf, partOf, embeddedOf, wholeRequest, nowhere, refusedRequest, requestFor, readRequest}
-use Rattle.definitions.specs.declared.error.Error.{Error}
 use Rattle.definitions.specs.declared.error.Error.the-variants.{«KDC_ERR_C_PRINCIPAL_UNKNOWN», «KDC_ERR_S_PRINCIPAL_UNKNOWN», «KDC_ERR_PRINCIPAL_NOT_UNIQUE», «KDC_ERR_NEVER_VALID», «KDC_ERR_POLICY», «KDC_ERR_BADOPTION», «KDC_ERR_CLIENT_REVOKED», «KDC_ERR_SERVER_NOMATCH», «KDC_ERR_SVC_UNAVAILABLE», «KRB_AP_ERR_TKT_EXPIRED», «KRB_AP_ERR_TKT_NYV», «KRB_AP_ERR_NOT_US», «KRB_AP_ERR_MODIFIED», «KRB_ERR_RESPONSE_TOO_BIG», «KRB_ERR_GENERIC», «KRB_ERR_FIELD_TOOLONG»}
 use Rattle.definitions.specs.declared.error.Answer.the-variants.{Accepted, Refused}
 use Rattle.definitions.specs.declared.ticket.Origin.the-variants.{Initial, Direct, S4U2self, Delegated}
@@ -25,7 +24,7 @@ use Rattle.definitions.specs.declared.request.Path.the-variants.{Decide,
 use Rattle.definitions.specs.declared.request.RequestReading.{RequestReading}
 use Rattle.definitions.proofs.RecordCases.{W1}
 use Rattle.definitions.proofs.DecisionCases.{tech, web, store}
-use Rattle.definitions.proofs.CaseValues.{ticket, nothing, request-1, request-2, request-3, request-4}
+use Rattle.definitions.proofs.CaseValues.{ticket, nothing, request-1, request-2, request-3, request-4, enough}
 use Rattle.definitions.proofs.AccountCases.{span, passing}
 
 -- ---- Records whose bytes all differ
@@ -163,16 +162,16 @@ pub record ReaderCases : Type 0 where
   -- R3.1, R3.2: each of the eight records, read and written, and how long it is
   pub records-read : map readTicket records ≡ map accepted their-tickets
   pub records-written : map recordOf their-tickets ≡ records
-  pub record-lengths : map (λ t. outcome (writtenOf t 31)) their-tickets ≡ 17 ∷ 20 ∷ 20 ∷ 25 ∷ 17 ∷ 20 ∷ 20 ∷ 31 ∷ []
+  pub record-lengths : map (λ t. outcome (writtenOf t enough)) their-tickets ≡ 17 ∷ 20 ∷ 20 ∷ 25 ∷ 17 ∷ 20 ∷ 20 ∷ 31 ∷ []
   -- R3.5: any values are read
   pub any-initial : readTicket (0x00 ∷ 0x37 ∷ replicate 11 0xFF ++ replicate 4 0x00) ≡ accepted (ticket 0xFFFF 0xFFFFFFFF 0xFF 0 0xFFFFFFFF 0 Initial [] false)
   pub any-delegated : readTicket (0x03 ∷ 0xFF ∷ replicate 20 0xFF ++ (0x01 ∷ 0xFF ∷ [])) ≡ accepted (ticket 0xFFFF 0xFFFFFFFF 0xFF 0xFF 0xFFFFFFFF 0xFFFFFFFF (Delegated 0xFFFF 0xFFFF) (0xFF ∷ []) true)
   -- R3.5: what is no record, with a blank ticket beside the answer
   pub records-refused : map readTicket unreadable ≡ replicate 14 (record { answer = Refused «KRB_ERR_GENERIC»; ticket = ticket 0 0 0 0 0 0 Initial [] false })
   -- R3.6, R3.7: what has no record is 60; else an output of 30 bytes is 52
-  pub unwritten : map (λ t. outcome (writtenOf t 31)) unwritable ≡ replicate 9 1060
+  pub unwritten : map (λ t. outcome (writtenOf t enough)) unwritable ≡ replicate 9 1060
   pub more-room : outcome (writtenOf (initial-ticket true) 32) ∷ outcome (writtenOf (initial-ticket true) 1000) ∷ [] ≡ 17 ∷ 17 ∷ []
-  pub no-room : map (λ t. outcome (writtenOf t 30)) their-tickets ≡ replicate 8 1052
+  pub no-room : map (λ t. outcome (writtenOf t (enough - 1))) their-tickets ≡ replicate 8 1052
   -- R3.7: the record at the output's start, every byte behind it as it was; nothing is touched by a refusal
   pub output-written : outputOf (initial-ticket true) (replicate 33 0xAA) ≡ initial 0x02 0x37 ++ replicate 16 0xAA
   pub output-exact : outputOf (initial-ticket true) (replicate 31 0xAA) ≡ initial 0x02 0x37 ++ replicate 14 0xAA

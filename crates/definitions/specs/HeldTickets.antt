@@ -1,21 +1,12 @@
--- What is held at a number: the first ticket that has it (R7.1).
+-- The ticket of a number: the first that has it (R7.1); and whether a presented ticket is that one (R5.1).
 -- Assumes nothing.
 use Prim.Native.Nat.{ℕ}
-use mathlib.Core.Bool.{true, false, cond}
+use mathlib.Core.Bool.{Bool, false, cond}
 use mathlib.Core.List.{List, [], _∷_}
 use mathlib.Core.Option.{Option, some, none}
 use lib.Dec.{eqb}
-use Rattle.definitions.specs.TicketRecords.{blankTicket}
+use Rattle.definitions.specs.Equality.{sameTicket}
 use Rattle.definitions.specs.declared.ticket.Ticket.{Ticket}
-use Rattle.definitions.specs.declared.decision.Held.{Held}
-
--- a ticket that is held
-abbrev pub heldTicket : Ticket → Held
-heldTicket ticket = record { found = true; ticket = ticket }
-
--- nothing is held; a blank ticket stands beside that
-abbrev pub notHeld : Held
-notHeld = record { found = false; ticket = blankTicket }
 
 -- R7.1: the first entry of a list that has a number, where a function tells an entry's number
 abbrev pub firstOf : {A : Type 0} → (A → ℕ) → ℕ → List A → Option A
@@ -30,11 +21,11 @@ ticketNumber ticket = ticket .number
 abbrev pub firstTicket : ℕ → List Ticket → Option Ticket
 firstTicket number tickets = firstOf ticketNumber number tickets
 
--- what is held, as a decision is told
-abbrev pub heldOf : Option Ticket → Held
-heldOf none = notHeld
-heldOf (some ticket) = heldTicket ticket
+-- what a number stands for, if anything, is a ticket, in every part
+abbrev pub isTicket : Option Ticket → Ticket → Bool
+isTicket none ticket = false
+isTicket (some held) ticket = sameTicket held ticket
 
--- R5.1: what a list of tickets holds at a number
-unfoldable pub firstHeld : List Ticket → ℕ → Held
-firstHeld tickets number = heldOf (firstTicket number tickets)
+-- R5.1: whether a list holds a ticket, by what its number stands for
+unfoldable pub holds : List Ticket → Ticket → Bool
+holds tickets ticket = isTicket (firstTicket (ticket .number) tickets) ticket

@@ -5,16 +5,14 @@ use Prim.Native.Nat.{ℕ, zero, suc, _+_, _*_, _/_, _%_, min}
 use mathlib.Core.Bool.{Bool, true, false, cond}
 use mathlib.Core.List.{List, [], _∷_}
 use lib.ListN.{getD, set, replicate}
-use lib.Dec.{ltb, eqb}
+use lib.Dec.{eqb}
 use Rattle.definitions.specs.Limits.{ticketLimit, trailLimit, byteBits, numberBits, two4, two8, two16, two32, two40, two48, two56, two60, countWord, numbersStart, placesStart, placeSize, windowWord, backWord, trailWord, ledgerSize}
 use Rattle.definitions.specs.TicketRecords.{tgtOf, evidenceOf}
-use Rattle.definitions.specs.HeldTickets.{heldTicket, notHeld}
 use Rattle.definitions.specs.Words.{lanesOf, packAt, laneAt, putLane, putRow}
 use Rattle.definitions.specs.declared.ticket.Origin.{Origin}
 use Rattle.definitions.specs.declared.ticket.Origin.the-variants.{Initial, Direct, S4U2self, Delegated}
 use Rattle.definitions.specs.declared.window.Window.{Window}
 use Rattle.definitions.specs.declared.ticket.Ticket.{Ticket}
-use Rattle.definitions.specs.declared.decision.Held.{Held}
 
 -- the word at which a place starts
 abbrev pub placeStart : ℕ → ℕ
@@ -63,10 +61,6 @@ countHeld words = min (getD words countWord 0) ticketLimit
 -- R5.10: the number of the next ticket
 abbrev pub nextNumber : List ℕ → ℕ
 nextNumber words = countHeld words
-
--- the ticket at a place of those held, nothing past them
-unfoldable pub heldAt : List ℕ → ℕ → Held
-heldAt words place = cond (ltb place (countHeld words)) (heldTicket (ticketAt words place)) notHeld
 
 -- the tickets of n places from one on
 unfoldable pub ticketsFrom : List ℕ → ℕ → ℕ → List Ticket

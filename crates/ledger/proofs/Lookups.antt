@@ -1,7 +1,7 @@
 -- Laws of the look-up: many places at a time, and what a kind presents.
 -- Assumes nothing.
 use mathlib.Core.Path.{_≡_, refl, sym, ap, _∙_}
-use mathlib.Core.Bool.{Bool, true, false}
+use mathlib.Core.Bool.{Bool, true, false, _&&_, false≢true}
 use mathlib.Core.List.{List}
 use Prim.Native.Nat.{ℕ, zero, suc, _+_, _-_, _*_, _/_, _%_, _≤_, _<_}
 use native.Mathlib.Nat.{add-zero, zero-add}
@@ -12,9 +12,12 @@ use borrow.Author.Tests.{ltb-true, ltb-false, le-ltb, le-leb}
 use Rattle.definitions.specs.Limits.{longestRecord, numberBits, two16, numbersStart}
 use Rattle.definitions.specs.Words.{laneOf, laneAt}
 use Rattle.rules.specs.Lanes.{allLanes, topBits, filledMarks}
-use Rattle.definitions.specs.LedgerWords.{ticketIn, ticketAt, countHeld, heldAt, ticketsFrom, ticketsOf}
-use Rattle.definitions.specs.HeldTickets.{firstHeld}
-use Rattle.ledger.specs.Lookups.{NoneHas, FirstLane, presentedFor, decideOn, lengthIn}
+use Rattle.definitions.specs.LedgerWords.{ticketIn, ticketAt, countHeld, ticketsFrom, ticketsOf}
+use Rattle.definitions.specs.HeldTickets.{firstTicket, isTicket, holds}
+use Rattle.definitions.specs.Equality.{sameTicket}
+use Rattle.ledger.specs.declared.held.Held.{Held}
+use mathlib.Core.Option.{Option, some, none}
+use Rattle.ledger.specs.Lookups.{heldOf, firstHeld, heldAt, NoneHas, FirstLane, decideOn, lengthIn}
 use lib.ListN.{length, getD}
 use Rattle.definitions.specs.Errors.{isAccepted}
 use Rattle.definitions.specs.Requests.{readRequest, pathOf, requestFor, requestLayout}
@@ -23,7 +26,6 @@ use Rattle.definitions.specs.declared.error.Answer.{Answer}
 use Rattle.definitions.specs.declared.error.Answer.the-variants.{Refused}
 use Rattle.definitions.specs.declared.ticket.Ticket.{Ticket}
 use Rattle.definitions.specs.declared.request.Kind.{Kind}
-use Rattle.definitions.specs.declared.request.Kind.the-variants as kind
 use mir.Syntax.{w32}
 use Rattle.definitions.proofs.Services.{granting, grants}
 use Rattle.definitions.proofs.Decisions.{past-accepted}
@@ -33,14 +35,12 @@ use Rattle.definitions.specs.declared.request.Path.{Path}
 use Rattle.definitions.specs.declared.request.Path.the-variants.{Decide, Refuse}
 use Rattle.definitions.specs.declared.request.RequestReading.{RequestReading}
 use Rattle.definitions.specs.Accounts.{Table}
-use Rattle.definitions.specs.Decisions.{refuse, decideKind, decide, openingChecks, past}
+use Rattle.definitions.specs.Decisions.{refuse, openingChecks, past}
 use Rattle.definitions.specs.declared.decision.Moment.{Moment}
 use Rattle.definitions.specs.declared.decision.Decision.{Decision}
-use Rattle.ledger.specs.declared.presented.Presented.{Presented}
 use Rattle.definitions.specs.Answers.{decideRequest, lengthOf}
 use Rattle.rules.proofs.Lanes.{lanes-other}
 use Rattle.definitions.proofs.LedgerWords.{tickets-start, first-here, first-on, first-end}
-use Rattle.definitions.specs.declared.request.Request.{Request}
 use Rattle.definitions.specs.Fields.{fieldOf, mapOf, Bytes}
 use Rattle.definitions.specs.Output.{writtenOf}
 use Rattle.definitions.specs.Services.{Service, decisionOf}
@@ -101,7 +101,7 @@ module _ (w : List ℕ) (number : ℕ) where
       lanes-other 15 4 (getD w (numbersStart + k) 0) number (i % 4) b (lane-of-four i) (marks-all number (getD w (numbersStart + k) 0) e) (rw (quarter i k h l) at q)
 
   -- places that have another number are passed
-  none-passed : (d i n : ℕ) → i + d ≤ n → NoneHas w number i (i + d) → firstHeld (ticketsFrom w i (n - i)) number ≡ firstHeld (ticketsFrom w (i + d) (n - (i + d))) number
+  none-passed : (d i n : ℕ) → i + d ≤ n → NoneHas w number i (i + d) → firstTicket number (ticketsFrom w i (n - i)) ≡ firstTicket number (ticketsFrom w (i + d) (n - (i + d)))
   none-passed zero i n l h = rw add-zero refl
   none-passed (suc d) i n l h =
       let e : i + suc d ≡ i + 1 + d = omega arith in
@@ -110,23 +110,24 @@ module _ (w : List ℕ) (number : ℕ) where
 
   -- none before a place past those held has the number
   pub first-none : (i : ℕ) → countHeld w ≤ i → NoneHas w number 0 i → firstHeld (ticketsOf w) number ≡ heldAt w i
-  unfolding heldAt
+  unfolding heldAt firstHeld
   first-none i l h =
       let n = countHeld w in
       rw (le-ltb i n l)
-      (ap (λ (ts : List Ticket). firstHeld ts number) (tickets-start w n refl) ∙ rw zero-add at (none-passed n 0 n (omega arith) (λ k p q. h k p (omega arith)))
-      ∙ first-end w n n number (omega arith))
+      (ap (λ (ts : List Ticket). firstHeld ts number) (tickets-start w n refl)
+      ∙ ap heldOf (rw zero-add at (none-passed n 0 n (omega arith) (λ k p q. h k p (omega arith))) ∙ first-end w n n number (omega arith)))
 
   -- a place has the number where none before it has
   pub first-at : (i : ℕ) → NoneHas w number 0 i → ticketAt w i .number ≡ number → firstHeld (ticketsOf w) number ≡ heldAt w i
-  unfolding heldAt
+  unfolding heldAt firstHeld
   first-at i h e = by (ltb i (countHeld w)) refl
     where
       by : (t : Bool) → ltb i (countHeld w) ≡ t → firstHeld (ticketsOf w) number ≡ heldAt w i
       by true q =
           let n = countHeld w in
           let l : i < n = ltb-true i n q in
-          rw q (ap (λ (ts : List Ticket). firstHeld ts number) (tickets-start w n refl) ∙ rw zero-add at (none-passed i 0 n (omega arith) (rw zero-add h)) ∙ first-here w i n number l e)
+          rw q (ap (λ (ts : List Ticket). firstHeld ts number) (tickets-start w n refl)
+          ∙ ap heldOf (rw zero-add at (none-passed i 0 n (omega arith) (rw zero-add h)) ∙ first-here w i n number l e))
       by false q = first-none i (ltb-false i (countHeld w) q) h
 
   -- the places of a word up to a lane
@@ -143,6 +144,33 @@ module _ (w : List ℕ) (number : ℕ) where
       let e : (i + lane) % 4 ≡ lane = omega arith in
       rw (d, e) (f .found l)
 
+-- ---- What a look-up tells
+-- whether a number stands for a ticket, and for which
+pub not-there : (l : List Ticket) (n : ℕ) (h : Held) → h ≡ firstHeld l n → h .found ≡ false → firstTicket n l ≡ none
+unfolding firstHeld
+not-there l n h e k = by (firstTicket n l) (sym (ap (λ (x : Held). x .found) e) ∙ k)
+  where
+    by : (o : Option Ticket) → heldOf o .found ≡ false → o ≡ none
+    by none q = refl
+    by (some t) q = absurd (false≢true (sym q))
+
+pub is-there : (l : List Ticket) (n : ℕ) (h : Held) → h ≡ firstHeld l n → h .found ≡ true → firstTicket n l ≡ some (h .ticket)
+unfolding firstHeld
+is-there l n h e k = by (firstTicket n l) e
+  where
+    by : (o : Option Ticket) → h ≡ heldOf o → o ≡ some (h .ticket)
+    by none q = absurd (false≢true (sym (ap (λ (x : Held). x .found) q) ∙ k))
+    by (some t) q = ap some (sym (ap (λ (x : Held). x .ticket) q))
+
+-- a ticket is held where the look-up finds it
+pub held-found : (l : List Ticket) (t : Ticket) (h : Held) → firstHeld l (t .number) ≡ h → holds l t ≡ (h .found && sameTicket (h .ticket) t)
+unfolding holds firstHeld
+held-found l t h e = by (firstTicket (t .number) l) ∙ ap (λ (x : Held). x .found && sameTicket (x .ticket) t) e
+  where
+    by : (o : Option Ticket) → isTicket o t ≡ (heldOf o .found && sameTicket (heldOf o .ticket) t)
+    by none = refl
+    by (some u) = refl
+
 -- ---- A request on a decision path
 -- the path that the first bytes pick decides
 pub path-decides : (a : Table) (l : List Ticket) (next : ℕ) (s : List ℕ) (clock room : ℕ) (p : Path)
@@ -155,25 +183,14 @@ pub path-refused : (a : Table) (l : List Ticket) (next : ℕ) (s : List ℕ) (cl
 unfolding decideOn requestFor openingChecks
 path-refused a l next s clock room = refl
 
--- a request is decided with what its kind looks up
-pub found-decides : (k : Kind) (a : Table) (l : List Ticket) (s : List ℕ) (q : Request) (m : Moment)
-    → decideKind k a s q (presentedFor k l (q .tgt .number) (q .evidence .number) .tgt) (presentedFor k l (q .tgt .number) (q .evidence .number) .evidence) m
-    ≡ decideKind k a s q (firstHeld l (q .tgt .number)) (firstHeld l (q .evidence .number)) m
-found-decides kind.Initial a l s q m = refl
-found-decides kind.Direct a l s q m = refl
-found-decides kind.S4U2self a l s q m = refl
-found-decides kind.S4U2proxy a l s q m = refl
-
--- a request on a path, decided with what was found, where the opening checks hold
-pub on-decided : (a : Table) (l : List Ticket) (next : ℕ) (s : List ℕ) (clock room : ℕ) (k : Kind) (q : RequestReading) (o : Answer) (f : Presented) (count : ℕ) (d : Decision)
-    → q ≡ requestFor s (mapOf s) (Decide k) → o ≡ judge (openingChecks (q .answer) room) → isAccepted o ≡ true
-    → f ≡ presentedFor (q .request .kind) l (q .request .tgt .number) (q .request .evidence .number) → count ≡ length l
-    → d ≡ decide a s (q .request) (f .tgt) (f .evidence) (record { clock = clock; count = count; next = next }) → d ≡ decideOn a l next s clock room (Decide k)
+-- a request on a path that was read, decided where the opening checks hold
+pub on-decided : (a : Table) (l : List Ticket) (next : ℕ) (s : List ℕ) (clock room : ℕ) (k : Kind) (q : RequestReading) (o : Answer) (count : ℕ) (d : Decision)
+    → q ≡ requestFor s (mapOf s) (Decide k) → o ≡ judge (openingChecks (q .answer) room) → isAccepted o ≡ true → count ≡ length l
+    → d ≡ decideRead a l s (record { clock = clock; count = count; next = next }) (q .request) → d ≡ decideOn a l next s clock room (Decide k)
 unfolding decideOn
-on-decided a l next s clock room k q o f count d eq eo h ef ec ed =
+on-decided a l next s clock room k q o count d eq eo h ec ed =
     let m : Moment = record { clock = clock; count = length l; next = next } in
-    let g : d ≡ decideRead a l s m (q .request) = ed ∙ rw (ef, ec) (found-decides (q .request .kind) a l s (q .request) m) in
-    g ∙ past-accepted o (judge (openingChecks (q .answer) room)) (decideRead a l s m (q .request)) eo h
+    ed ∙ rw ec (past-accepted o (judge (openingChecks (q .answer) room)) (decideRead a l s m (q .request)) eo h)
     ∙ ap (λ (r : RequestReading). past (judge (openingChecks (r .answer) room)) (decideRead a l s m (r .request))) eq
 
 -- ---- The length of a grant's record is what the writer answers, and at most the longest

@@ -4,7 +4,7 @@ use Prim.Native.Nat.{ℕ, _+_}
 use mathlib.Core.Option.{Option, some, none}
 use Rattle.definitions.specs.declared.descended.Descended.{Descended}
 use Rattle.definitions.specs.declared.descended.Descended.the-variants.{Steps, Refused}
-use Rattle.definitions.specs.declared.decision.Held.{Held}
+use Rattle.ledger.specs.declared.held.Held.{Held}
 use Rattle.ledger.specs.declared.steps.Standing.{Standing}
 use Rattle.ledger.specs.declared.steps.Back.{Back}
 use Rattle.ledger.specs.declared.steps.Back.the-variants.{Stop, To}

@@ -1,17 +1,19 @@
--- How the code looks tickets up: for each kind what it presents, and many places at a time (R5.1, R7.1). No exported promise speaks of it; it ties
--- the look-up to `firstHeld`.
+-- How the code looks tickets up: a request on its decision path, what a look-up tells, and many places at a time (R5.1, R7.1). Of the exported
+-- promises those of `held_at` and `first_held` alone speak of it; the laws of the same name tie it to `holds` and `firstTicket`.
 -- Assumes nothing.
 use Prim.Native.Nat.{ℕ, _≤_, _<_}
 use mathlib.Core.Path.{_≡_}
+use mathlib.Core.Bool.{true, false, cond}
+use mathlib.Core.Option.{Option, some, none}
+use lib.Dec.{ltb}
 use mathlib.Core.List.{List}
 use Rattle.definitions.specs.Limits.{numberBits, numbersInWord}
 use Rattle.definitions.specs.Words.{laneOf}
-use Rattle.definitions.specs.LedgerWords.{ticketAt}
-use Rattle.definitions.specs.HeldTickets.{notHeld, firstHeld}
-use Rattle.ledger.specs.declared.presented.Presented.{Presented}
+use Rattle.definitions.specs.LedgerWords.{ticketAt, countHeld}
+use Rattle.definitions.specs.HeldTickets.{firstTicket}
+use Rattle.definitions.specs.TicketRecords.{blankTicket}
+use Rattle.ledger.specs.declared.held.Held.{Held}
 use Rattle.definitions.specs.declared.ticket.Ticket.{Ticket}
-use Rattle.definitions.specs.declared.request.Kind.{Kind}
-use Rattle.definitions.specs.declared.request.Kind.the-variants as kind
 use lib.ListN.{length}
 use Rattle.definitions.specs.Fields.{mapOf}
 use Rattle.definitions.specs.Requests.{requestFor}
@@ -36,25 +38,27 @@ abbrev pub lengthIn : Written → ℕ
 lengthIn (Length written) = written
 lengthIn (Unwritten error) = 0
 
--- ---- What is looked up for a request of each kind: only what its decision asks for
--- nothing: kind 1 presents no ticket
-abbrev pub presentedNone : Presented
-presentedNone = record { tgt = notHeld; evidence = notHeld }
+-- ---- What a place or a number has, as a look-up tells it
+-- a ticket
+abbrev pub heldTicket : Ticket → Held
+heldTicket ticket = record { found = true; ticket = ticket }
 
--- the TGT
-abbrev pub presentedTgt : List Ticket → ℕ → Presented
-presentedTgt tickets tgt = record { tgt = firstHeld tickets tgt; evidence = notHeld }
+-- nothing; a blank ticket stands beside that
+abbrev pub notHeld : Held
+notHeld = record { found = false; ticket = blankTicket }
 
--- the TGT and the evidence
-abbrev pub presentedBoth : List Ticket → ℕ → ℕ → Presented
-presentedBoth tickets tgt evidence = record { tgt = firstHeld tickets tgt; evidence = firstHeld tickets evidence }
+-- one or the other
+abbrev pub heldOf : Option Ticket → Held
+heldOf none = notHeld
+heldOf (some ticket) = heldTicket ticket
 
--- by kind: nothing for kind 1, the TGT for kinds 2 and 3, the TGT and the evidence for kind 4
-abbrev pub presentedFor : Kind → List Ticket → ℕ → ℕ → Presented
-presentedFor kind.Initial tickets tgt evidence = presentedNone
-presentedFor kind.Direct tickets tgt evidence = presentedTgt tickets tgt
-presentedFor kind.S4U2self tickets tgt evidence = presentedTgt tickets tgt
-presentedFor kind.S4U2proxy tickets tgt evidence = presentedBoth tickets tgt evidence
+-- what a number stands for (R7.1)
+unfoldable pub firstHeld : List Ticket → ℕ → Held
+firstHeld tickets number = heldOf (firstTicket number tickets)
+
+-- the ticket at a place of those held, nothing past them
+unfoldable pub heldAt : List ℕ → ℕ → Held
+heldAt words place = cond (ltb place (countHeld words)) (heldTicket (ticketAt words place)) notHeld
 
 -- ---- Tickets, many places at a time
 -- none of the tickets from a place on and before another has a number

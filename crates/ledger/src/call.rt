@@ -1,5 +1,5 @@
 // The calls: a fresh service, an edit, and a request (R6.1, R7.2, R7.3).
-use crate::search::presented_for;
+use crate::search::holds;
 use crate::storing::store_ticket;
 use crate::words::LedgerWords;
 use crate::words::count_held;
@@ -10,15 +10,22 @@ use definitions::Error;
 use definitions::Kind;
 use definitions::Moment;
 use definitions::Path;
+use definitions::Request;
 use definitions::Ticket;
 use definitions::Written;
 use rules::AccountWords;
+use rules::asks_forwardable;
 use rules::blank_ticket;
 use rules::check_opening;
-use rules::decide;
+use rules::decide_direct;
+use rules::decide_initial;
+use rules::decide_s4u2proxy;
+use rules::decide_s4u2self;
 use rules::edit_account;
 use rules::fresh_accounts;
+use rules::has_cname_in_addl_tkt;
 use rules::is_accepted;
+use rules::is_resource_based;
 use rules::read_rest;
 use rules::refuse;
 use rules::request_path;
@@ -32,7 +39,7 @@ ghost use Rattle.definitions.specs.AccountWords.{tableOf};
 ghost use Rattle.definitions.specs.Edits.{editOf};
 ghost use Rattle.definitions.specs.LedgerWords.{countHeld, nextNumber, ticketsOf};
 ghost use Rattle.ledger.specs.Lookups.{decideOn, lengthIn};
-ghost use Rattle.definitions.specs.Answers.{lengthOf};
+ghost use Rattle.definitions.specs.Answers.{lengthOf, decideRead};
 ghost use Rattle.definitions.specs.Answers.{edit as an-edit, request as a-request};
 ghost use Rattle.definitions.specs.Services.{freshService, perform};
 ghost use Rattle.definitions.specs.Demand.{Demand3};
@@ -62,7 +69,61 @@ pub fn edit(
     edit_account(accounts, number, name, flags, send, receive, lifetime)
 }
 
-// What a request is answered on a decision path, where so many tickets are held: read once, its tickets looked up, and decided.
+// What a request that was read is answered, where so many tickets are held: by its kind, with only that looked up which the kind presents.
+fn decide_read(
+    accounts: &AccountWords,
+    ledger: &LedgerWords,
+    count: usize,
+    bytes: &[u8],
+    clock: u32,
+    request: Request,
+) -> Decision
+    requires { ⌜ count ≡ countHeld (now ledger) ⌝ }
+    ensures { λ r. ⌜ r ≡ decideRead (tableOf (now (accounts .entry))) (ticketsOf (now (ledger .entry))) (now (bytes .entry)) (record { clock = clock; count = count; next = nextNumber (now (ledger .entry)) }) request ⌝ }
+{
+    let next = count as u16;
+    let moment = Moment { clock, count, next };
+    let asked = asks_forwardable(request.options);
+    let kind = request.kind;
+    match kind {
+        Kind::Initial => decide_initial(accounts, bytes, moment, asked, request.till, request.user),
+        Kind::Direct => decide_direct(
+            accounts,
+            bytes,
+            moment,
+            asked,
+            request.till,
+            request.tgt,
+            holds(ledger, count, request.tgt),
+            request.service,
+        ),
+        Kind::S4U2self => decide_s4u2self(
+            accounts,
+            bytes,
+            moment,
+            asked,
+            request.till,
+            request.tgt,
+            holds(ledger, count, request.tgt),
+            request.user,
+        ),
+        Kind::S4U2proxy => decide_s4u2proxy(
+            accounts,
+            bytes,
+            moment,
+            has_cname_in_addl_tkt(request.options),
+            is_resource_based(request.pac_options),
+            request.till,
+            request.tgt,
+            holds(ledger, count, request.tgt),
+            request.evidence,
+            holds(ledger, count, request.evidence),
+            request.service,
+        ),
+    }
+}
+
+// What a request is answered on a decision path, where so many tickets are held: read once, and decided.
 fn decide_on(
     accounts: &AccountWords,
     ledger: &LedgerWords,
@@ -81,22 +142,7 @@ fn decide_on(
     if !is_accepted(opening) {
         return refuse(opening);
     }
-    let request = reading.request;
-    let tgt = request.tgt;
-    let evidence = request.evidence;
-    let asked = request.kind;
-    let found = presented_for(ledger, count, asked, tgt.number, evidence.number);
-    let tgt_held = found.tgt;
-    let evidence_held = found.evidence;
-    let next = count as u16;
-    decide(
-        accounts,
-        bytes,
-        request,
-        tgt_held,
-        evidence_held,
-        Moment { clock, count, next },
-    )
+    decide_read(accounts, ledger, count, bytes, clock, reading.request)
 }
 
 // The length that the writer answered, 0 of a refusal.

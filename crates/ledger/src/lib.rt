@@ -1,6 +1,6 @@
 // Layer 3, the ledger: the tickets held, in words that the caller lends; the calls, descent and day total (R7).
 mod call;
-mod presented;
+mod held;
 mod search;
 mod steps;
 mod storing;
@@ -12,6 +12,7 @@ pub use call::demand_3;
 pub use call::edit;
 pub use call::fresh;
 pub use call::request;
+pub use held::Held;
 pub use search::first_held;
 pub use search::held_at;
 pub use steps::descent;

@@ -1,24 +1,23 @@
-// What the ledger holds: at a place, at a number, and at the numbers that a request presents (R5.1, R7.1).
-use crate::presented::Presented;
+// What the ledger holds: at a place, at a number, and whether a ticket is held (R5.1, R7.1).
+use crate::held::Held;
 use crate::words::LedgerWords;
 use crate::words::count_held;
 use crate::words::number_in;
 use crate::words::number_word;
 use crate::words::ticket_at;
-use definitions::Held;
-use definitions::Kind;
 use definitions::NUMBERS_IN_WORD;
 use definitions::Ticket;
 use rules::blank_ticket;
+use rules::same_ticket;
 ghost use mathlib.Core.Path.{_≡_};
 ghost use mathlib.Core.Bool.{true};
 ghost use Prim.Native.Nat.{_+_, _*_, _%_, _<_, _≤_};
 ghost use lib.Bits.{bitXor};
 ghost use Rattle.definitions.specs.Limits.{ticketLimit, numbersInWord, numberWords};
 ghost use Rattle.rules.specs.Lanes.{filledMarks};
-ghost use Rattle.definitions.specs.HeldTickets.{heldTicket, notHeld, firstHeld};
-ghost use Rattle.definitions.specs.LedgerWords.{countHeld, heldAt, ticketsOf};
-ghost use Rattle.ledger.specs.Lookups.{NoneHas, FirstLane, presentedNone, presentedTgt, presentedBoth, presentedFor};
+ghost use Rattle.definitions.specs.HeldTickets.{holds};
+ghost use Rattle.definitions.specs.LedgerWords.{countHeld, ticketsOf};
+ghost use Rattle.ledger.specs.Lookups.{heldTicket, notHeld, firstHeld, heldAt, NoneHas, FirstLane};
 
 // A ticket that is held.
 fn held_ticket(t: Ticket) -> Held
@@ -139,68 +138,23 @@ pub(crate) fn place_of(words: &LedgerWords, end: usize, number: u16) -> usize
     i
 }
 
-// The first ticket of a number, of the n that are held.
-fn first_in(words: &LedgerWords, n: usize, number: u16) -> Held
-    requires { ⌜ n ≡ countHeld (now words) ⌝ }
-    ensures { λ r. ⌜ r ≡ firstHeld (ticketsOf (now (words .entry))) number ⌝ }
-{
-    held_in(words, n, place_of(words, n, number))
-}
-
 // The first ticket of a number.
 pub fn first_held(words: &LedgerWords, number: u16) -> Held
     ensures { λ r. ⌜ r ≡ firstHeld (ticketsOf (now (words .entry))) number ⌝ }
 {
-    first_in(words, count_held(words), number)
+    let n = count_held(words);
+    held_in(words, n, place_of(words, n, number))
 }
 
-// Nothing is looked up.
-fn presented_none() -> Presented
-    ensures { λ r. ⌜ r ≡ presentedNone ⌝ }
-{
-    Presented {
-        tgt: not_held(),
-        evidence: not_held(),
-    }
-}
-
-// The TGT alone is looked up, among the n tickets that are held.
-fn presented_tgt(words: &LedgerWords, n: usize, tgt: u16) -> Presented
+// Whether a ticket is held, among the n that are: what stands at its number is the very same.
+pub(crate) fn holds(words: &LedgerWords, n: usize, ticket: Ticket) -> bool
     requires { ⌜ n ≡ countHeld (now words) ⌝ }
-    ensures { λ r. ⌜ r ≡ presentedTgt (ticketsOf (now (words .entry))) tgt ⌝ }
+    ensures { λ r. ⌜ r ≡ holds (ticketsOf (now (words .entry))) ticket ⌝ }
 {
-    Presented {
-        tgt: first_in(words, n, tgt),
-        evidence: not_held(),
-    }
-}
-
-// The TGT and the evidence are looked up.
-fn presented_both(words: &LedgerWords, n: usize, tgt: u16, evidence: u16) -> Presented
-    requires { ⌜ n ≡ countHeld (now words) ⌝ }
-    ensures { λ r. ⌜ r ≡ presentedBoth (ticketsOf (now (words .entry))) tgt evidence ⌝ }
-{
-    Presented {
-        tgt: first_in(words, n, tgt),
-        evidence: first_in(words, n, evidence),
-    }
-}
-
-// Looks up what a request of a kind presents, among the n tickets that are held.
-pub(crate) fn presented_for(
-    words: &LedgerWords,
-    n: usize,
-    kind: Kind,
-    tgt: u16,
-    evidence: u16,
-) -> Presented
-    requires { ⌜ n ≡ countHeld (now words) ⌝ }
-    ensures { λ r. ⌜ r ≡ presentedFor kind (ticketsOf (now (words .entry))) tgt evidence ⌝ }
-{
-    match kind {
-        Kind::Initial => presented_none(),
-        Kind::Direct => presented_tgt(words, n, tgt),
-        Kind::S4U2self => presented_tgt(words, n, tgt),
-        Kind::S4U2proxy => presented_both(words, n, tgt, evidence),
+    let place = place_of(words, n, ticket.number);
+    if place < n {
+        same_ticket(ticket_at(words, place), ticket)
+    } else {
+        false
     }
 }

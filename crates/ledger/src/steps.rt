@@ -9,7 +9,7 @@ use definitions::Origin;
 use definitions::TWO_16;
 ghost use mathlib.Core.Path.{_≡_};
 ghost use Prim.Native.Nat.{_≤_};
-ghost use Rattle.definitions.specs.HeldTickets.{firstHeld};
+ghost use Rattle.ledger.specs.Lookups.{firstHeld};
 ghost use Rattle.definitions.specs.LedgerWords.{ticketsOf};
 ghost use Rattle.definitions.specs.Descent.{backOf, descent, descended};
 ghost use Rattle.ledger.specs.BackSteps.{standingOf, backTo, stepsIn, oneMore};

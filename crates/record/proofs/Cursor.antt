@@ -2,21 +2,21 @@
 -- Assumes nothing.
 use mathlib.Core.Path.{_≡_, refl, sym, ap, _∙_}
 use mathlib.Core.Bool.{Bool, true, false, _&&_, cond}
-use mathlib.Core.List.{List, [], _∷_, _++_, append-nil}
+use mathlib.Core.List.{List, [], _∷_, _++_}
 use Prim.Native.Nat.{ℕ, zero, suc, _+_, _-_, _*_, _/_, _%_, _^_, _≤_, _<_}
-use native.Mathlib.Nat.{add-zero, add-suc, add-assoc, zero-add, mul-le-mul, one-le-pow, zero-lt-suc}
+use native.Mathlib.Nat.{add-zero, add-assoc, zero-add, mul-le-mul, one-le-pow, zero-lt-suc}
 use native.Mathlib.Omega.{arith}
 use lib.ListN.{length, getD, take, drop, drop-of-length-le, length-append, set, List·getD-eq-default}
 use lib.Seq.{take-suc, sets, sets-eq, length-take-le}
 use lib.Dec.{leb, eqb}
 use borrow.Author.Tests.{le-leb, leb-true}
 use Rattle.definitions.specs.Limits.{longestRecord, byteBits}
-use Rattle.definitions.specs.Fields.{Bytes, hasBit, numberAt, bigEndian, Layout, row, fieldAt, unitsSize, offsetOf, fieldOf, plain, fieldBytes, bytesTo}
+use Rattle.definitions.specs.Fields.{Bytes, hasBit, numberAt, bigEndian, Layout, row, fieldAt, offsetOf, fieldOf, Value, plain, valueAt, fieldBytes, bytesTo}
 use Rattle.definitions.specs.declared.field.Field.{Field}
-use Rattle.record.specs.Cursor.{cursorMost, Numbered, Taken, headsMost, Wrote}
+use Rattle.record.specs.Cursor.{cursorMost, Numbered, Taken, Wrote}
 use Rattle.definitions.proofs.Bools.{and-left, and-right}
-use Rattle.definitions.proofs.Fields.{number-one, offset-next, past-there, past-absent, number-missing, length-bigEndian}
-use Rattle.definitions.specs.TicketRecords.{ticketLayout, allZero, wellFormed, mapOfTicket, valuesOf, recordAs}
+use Rattle.definitions.proofs.Fields.{number-one, offset-mono, offset-next, past-there, past-absent, number-missing, length-bigEndian}
+use Rattle.definitions.specs.TicketRecords.{ticketLayout, allZero, wellFormed, mapOfTicket, recordAs}
 use Rattle.definitions.specs.Output.{writtenOf, outputOf}
 use Rattle.definitions.specs.declared.ticket.Ticket.{Ticket}
 use Rattle.definitions.specs.declared.ticket.Written.the-variants.{Length}
@@ -51,34 +51,30 @@ units-few u x h =
     let l : x % 256 ≤ 255 = omega arith in
     mul-le-mul {n₂ = 4} {m₂ = 255} h l
 
-module _ (L : Layout) (s : List ℕ) (m k i : ℕ) (f : Field) (ef : fieldAt L k ≡ f) (ei : i ≡ offsetOf L s m k)
-    (li : i ≤ cursorMost k) where
+module _ (L : Layout) (s : List ℕ) (m k i : ℕ) (f : Field) (l : k < length L) (ef : fieldAt L k ≡ f)
+    (ei : i ≡ offsetOf L s m k) (li : i ≤ cursorMost k) where
   -- a field that stands, and one that does not
   pub taken-there : (x : ℕ) → f .head ≤ 4 → f .unit ≤ 4 → hasBit m k ≡ true → Numbered s i (f .head) x
-      → Taken L s m k i (record { value = x; next = i + f .head + f .unit * (x % 256) })
+      → Taken L s m k (record { value = x; next = i + f .head + f .unit * (x % 256) })
   unfolding fieldOf
   taken-there x hh hu h n =
+      let next : offsetOf L s m (k + 1) ≡ i + f .head + f .unit * (x % 256) = offset-next L s m k ∙ rw (sym ei) (past-there L s m k i h ∙ rw (ef, n .counts)) in
       record {
-        value = λ l. n .whole (omega arith) ∙ rw (h, ef, ei);
-        single = λ l. n .single (rw ef at l) ∙ rw (h, ef, ei);
-        next = sym (offset-next L s m k ∙ rw (sym ei) (past-there L s m k i h ∙ past));
+        value = λ w. n .whole (omega (arith, next, offset-mono L s m (k + 1) (length L) (omega arith))) ∙ rw (h, ef, ei);
+        single = λ w. n .single (rw ef at w) ∙ rw (h, ef, ei);
+        next = sym next;
         fits = rw ef (n .fits);
-        later = omega arith;
         bounded = omega (arith, units-few (f .unit) x hu);
       }
-    where
-      past : i + fieldAt L k .head + unitsSize (fieldAt L k) (numberAt s i (fieldAt L k .head)) ≡ i + f .head + f .unit * (x % 256)
-      past = rw (ef, n .counts)
 
-  pub taken-absent : hasBit m k ≡ false → Taken L s m k i (record { value = 0; next = i })
+  pub taken-absent : hasBit m k ≡ false → Taken L s m k (record { value = 0; next = i })
   unfolding fieldOf
   taken-absent h =
       record {
-        value = λ l. rw h;
-        single = λ l. rw h;
+        value = λ w. rw h;
+        single = λ w. rw h;
         next = sym (offset-next L s m k ∙ rw (sym ei) (past-absent L s m k i h));
         fits = one-le-pow (fieldAt L k .head) 256 (zero-lt-suc 255);
-        later = omega arith;
         bounded = omega arith;
       }
 
@@ -95,16 +91,6 @@ small-at (f ∷ L) h zero =
 small-at (f ∷ L) h (suc k) = small-at L (and-right (leb (f .head) 4 && leb (f .unit) 4) (allSmall L) h) k
 
 -- ---- Putting
--- how far a cursor gets
-heads-add : (L : Layout) (k n : ℕ) → headsMost L k ≤ headsMost L (k + n)
-heads-add L k zero = rw add-zero (omega arith)
-heads-add L k (suc n) = rw add-suc (omega (arith, heads-add L k n))
-
-pub heads-most : (L : Layout) (k n : ℕ) → k ≤ n → headsMost L k ≤ headsMost L n
-heads-most L k n h =
-    let e : k + (n - k) ≡ n = omega arith in
-    rw e at (heads-add L k (n - k))
-
 -- a big-endian number is stored from its last byte on
 pub put-step : (l : List ℕ) (i j x : ℕ) → sets (set l (i + j) (x % 256)) i (bigEndian j (x / 256)) ≡ sets l i (bigEndian (suc j) x)
 unfolding bigEndian
@@ -126,42 +112,25 @@ wrote-then {o} {i} {vs} {ws} p q =
 pub wrote-nothing : {o : List ℕ} {i : ℕ} → Wrote o i [] o i
 wrote-nothing {i} = record { put = refl; past = sym (add-zero i) }
 
-pub field-there : (m k x : ℕ) {o o₁ : List ℕ} {i r : ℕ} → hasBit m k ≡ true
-    → Wrote o i (bigEndian (fieldAt ticketLayout k .head) x) o₁ r → Wrote o i (fieldBytes ticketLayout m k (plain x)) o₁ r
+-- the field of a bit that stands, and of one that does not
+pub field-there : (m k : ℕ) (v : Value) {o o₁ : List ℕ} {i r : ℕ} → hasBit m k ≡ true
+    → Wrote o i (bigEndian (fieldAt ticketLayout k .head) (v .number) ++ v .counted) o₁ r → Wrote o i (fieldBytes ticketLayout m k v) o₁ r
 unfolding fieldBytes
-field-there m k x h p = rw (h, append-nil (bigEndian (fieldAt ticketLayout k .head) x)) p
+field-there m k v h p = rw h p
 
-pub field-absent : (m k x : ℕ) {o : List ℕ} {i : ℕ} → hasBit m k ≡ false → Wrote o i (fieldBytes ticketLayout m k (plain x)) o i
+pub field-absent : (m k : ℕ) (v : Value) {o : List ℕ} {i : ℕ} → hasBit m k ≡ false → Wrote o i (fieldBytes ticketLayout m k v) o i
 unfolding fieldBytes
-field-absent m k x h = rw h wrote-nothing
-
--- what is counted follows the head
-pub counted-there : (m k x : ℕ) (xs : List ℕ) {o o₁ o₂ : List ℕ} {i a r : ℕ} → hasBit m k ≡ true
-    → Wrote o i (fieldBytes ticketLayout m k (plain x)) o₁ a → Wrote o₁ a xs o₂ r
-    → Wrote o i (fieldBytes ticketLayout m k (record { number = x; counted = xs })) o₂ r
-unfolding fieldBytes
-counted-there m k x xs h p q =
-    rw h (wrote-then (rw (h, append-nil (bigEndian (fieldAt ticketLayout k .head) x)) at p) q)
-
-pub counted-absent : (m k x : ℕ) (xs : List ℕ) {o o₁ : List ℕ} {i r : ℕ} → hasBit m k ≡ false
-    → Wrote o i (fieldBytes ticketLayout m k (plain x)) o₁ r → Wrote o i (fieldBytes ticketLayout m k (record { number = x; counted = xs })) o₁ r
-unfolding fieldBytes
-counted-absent m k x xs h p = rw h (rw h at p)
+field-absent m k v h = rw h wrote-nothing
 
 -- a mark has no bytes
-mark-bytes : (m k : ℕ) → fieldAt ticketLayout k ≡ row 0 0 → fieldBytes ticketLayout m k (plain 0) ≡ []
-unfolding fieldBytes bigEndian
-mark-bytes m k e = rw e (by (hasBit m k))
+pub wrote-mark : (vs : List Value) (m k : ℕ) {o o₁ : List ℕ} {i r : ℕ} → fieldAt ticketLayout k ≡ row 0 0 → valueAt vs k ≡ plain 0
+    → Wrote o i (bytesTo ticketLayout m vs k) o₁ r → Wrote o i (bytesTo ticketLayout m vs (suc k)) o₁ r
+unfolding bytesTo fieldBytes bigEndian
+wrote-mark vs m k {o} {o₁} {i} {r} e v p = rw (e, v) (by (hasBit m k))
   where
-    by : (p : Bool) → _≡_ {A = List ℕ} (cond p [] []) []
-    by true = refl
-    by false = refl
-
--- the record is whole behind its trail
-pub wrote-marks : (t : Ticket) (m : ℕ) {o o₁ : List ℕ} {i r : ℕ} → Wrote o i (bytesTo ticketLayout m (valuesOf t) 9) o₁ r
-    → Wrote o i (recordAs t m) o₁ r
-unfolding recordAs bytesTo
-wrote-marks t m p = rw (mark-bytes m 9 refl, mark-bytes m 10 refl, append-nil (bytesTo ticketLayout m (valuesOf t) 9), append-nil (bytesTo ticketLayout m (valuesOf t) 9)) p
+    by : (b : Bool) → Wrote o i (bytesTo ticketLayout m vs k ++ cond b [] []) o₁ r
+    by true = wrote-then p wrote-nothing
+    by false = wrote-then p wrote-nothing
 
 -- the record
 pub wrote-record : (t : Ticket) (o o₁ : List ℕ) (m r : ℕ) → m ≡ mapOfTicket t → wellFormed t m ≡ true → longestRecord ≤ length o

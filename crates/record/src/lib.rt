@@ -32,7 +32,7 @@ pub use writer::write_ticket;
 ghost use mathlib.Core.Path.{_≡_};
 ghost use mathlib.Core.Bool.{_&&_, _||_};
 ghost use Prim.Native.Nat.{_≤_, _<_};
-ghost use lib.ListN.{getD};
+ghost use lib.ListN.{getD, length};
 ghost use lib.Dec.{leb};
 ghost use Rattle.definitions.specs.Fields.{hasBit, mapOf, Layout, fieldAt, offsetOf};
 ghost use Rattle.record.specs.Cursor.{cursorMost, Numbered, Taken};
@@ -98,7 +98,7 @@ fn number(bytes: &[u8], at: usize, width: usize) -> u32
 // What a field of so many bytes holds at the cursor, if the map has its bit.
 fn take_field(bytes: &[u8], map: u16, bit: usize, field: Field, at: usize) -> Found
     requires { ⌜ (bit < 16) × (field .head ≤ 4) × (field .unit ≤ 4) × (at ≤ cursorMost bit) ⌝ }
-    ensures { λ r. ⌜ ((layout : Layout) → fieldAt layout bit ≡ field → at ≡ offsetOf layout (now (bytes .entry)) map bit → Taken layout (now (bytes .entry)) map bit at r) ⌝ }
+    ensures { λ r. ⌜ ((layout : Layout) → bit < length layout → fieldAt layout bit ≡ field → at ≡ offsetOf layout (now (bytes .entry)) map bit → Taken layout (now (bytes .entry)) map bit r) ⌝ }
 {
     if present(map, bit) {
         let value = number(bytes, at, field.head);

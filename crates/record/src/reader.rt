@@ -1,6 +1,7 @@
 // The ticket reader: any bytes to a ticket, or 60 (R3.5).
 use crate::both;
 use crate::found::Found;
+use crate::found::Walk;
 use crate::map_of;
 use crate::present;
 use crate::take_field;
@@ -19,15 +20,15 @@ ghost use mathlib.Core.Bool.{true};
 ghost use Prim.Native.Nat.{ℕ, _+_, _≤_, _<_};
 ghost use lib.ListN.{length};
 ghost use Rattle.definitions.specs.Limits.{trailLimit};
-ghost use Rattle.definitions.specs.Fields.{offsetOf};
-ghost use Rattle.record.specs.Cursor.{cursorMost, Taken};
+ghost use Rattle.definitions.specs.Fields.{fieldAt, offsetOf};
+ghost use Rattle.record.specs.Cursor.{cursorMost, Taken, Walked};
 ghost use Rattle.definitions.specs.TicketRecords.{ticketLayout, knownMap, hopsFit, originAs, trailOf, accepted, refused, readTicket};
 
 // How many fields a ticket's record has.
-pub const FIELDS: usize = 11;
+const FIELDS: usize = 11;
 
 // Its fields, by map bit (R3.2).
-pub const LAYOUT: [Field; FIELDS] = [
+const LAYOUT: [Field; FIELDS] = [
     Field { head: 2, unit: 0 }, // number
     Field { head: 4, unit: 0 }, // flags
     Field { head: 1, unit: 0 }, // client
@@ -82,12 +83,20 @@ pub(crate) fn hops_fit(map: u16, hops: u8) -> bool
     }
 }
 
+// What the field of a map bit is made of.
+pub(crate) fn ticket_row(bit: usize) -> Field
+    requires { ⌜ bit < length ticketLayout ⌝ }
+    ensures { λ r. ⌜ r ≡ fieldAt ticketLayout bit ⌝ }
+{
+    LAYOUT[bit]
+}
+
 // The field of a map bit at the cursor.
 fn ticket_field(bytes: &[u8], map: u16, bit: usize, at: usize) -> Found
     requires { ⌜ (bit < length ticketLayout) × (at ≡ offsetOf ticketLayout (now bytes) map bit) × (at ≤ cursorMost bit) ⌝ }
-    ensures { λ r. ⌜ Taken ticketLayout (now (bytes .entry)) map bit at r ⌝ }
+    ensures { λ r. ⌜ Taken ticketLayout (now (bytes .entry)) map bit r ⌝ }
 {
-    take_field(bytes, map, bit, LAYOUT[bit], at)
+    take_field(bytes, map, bit, ticket_row(bit), at)
 }
 
 // The origin that a map stands for, with the back numbers of the record.
@@ -118,14 +127,10 @@ fn trail_of(bytes: &[u8], at: usize, hops: u8) -> [Principal; TRAIL_LIMIT]
     trail
 }
 
-// The ticket of a record, front to back, or 60.
-pub fn read_ticket(bytes: &[u8]) -> Reading
-    ensures { λ r. ⌜ r ≡ readTicket (now (bytes .entry)) ⌝ }
+// The fields of a record, front to back, each taken once, with the marks, which have no bytes.
+fn walk(bytes: &[u8], map: u16) -> Walk
+    ensures { λ r. ⌜ Walked (now (bytes .entry)) map r ⌝ }
 {
-    let map = map_of(bytes);
-    if !known_map(map) {
-        return refused();
-    }
     let number = ticket_field(bytes, map, 0, 2);
     let flags = ticket_field(bytes, map, 1, number.next);
     let client = ticket_field(bytes, map, 2, flags.next);
@@ -135,23 +140,50 @@ pub fn read_ticket(bytes: &[u8]) -> Reading
     let tgt = ticket_field(bytes, map, 6, end.next);
     let evidence = ticket_field(bytes, map, 7, tgt.next);
     let accounts = ticket_field(bytes, map, 8, evidence.next);
+    let barred = ticket_field(bytes, map, 9, accounts.next);
+    let self_mark = ticket_field(bytes, map, 10, barred.next);
     let hops = accounts.value as u8;
-    if !both(hops_fit(map, hops), bytes.len() == accounts.next) {
-        return refused();
-    }
-    let trail = trail_of(bytes, evidence.next + 1, hops);
-    accepted(Ticket {
+    let fits = both(hops_fit(map, hops), bytes.len() == self_mark.next);
+    Walk {
         number: number.value as u16,
         flags: flags.value,
         client: client.value as u8,
         service: service.value as u8,
-        window: Window {
-            start: start.value,
-            end: end.value,
-        },
-        origin: origin_as(map, tgt.value as u16, evidence.value as u16),
-        trail,
+        start: start.value,
+        end: end.value,
+        tgt: tgt.value as u16,
+        evidence: evidence.value as u16,
         hops,
+        trail: evidence.next + 1,
+        fits,
+    }
+}
+
+// The ticket of a record, or 60.
+pub fn read_ticket(bytes: &[u8]) -> Reading
+    ensures { λ r. ⌜ r ≡ readTicket (now (bytes .entry)) ⌝ }
+{
+    let map = map_of(bytes);
+    if !known_map(map) {
+        return refused();
+    }
+    let found = walk(bytes, map);
+    if !found.fits {
+        return refused();
+    }
+    let trail = trail_of(bytes, found.trail, found.hops);
+    accepted(Ticket {
+        number: found.number,
+        flags: found.flags,
+        client: found.client,
+        service: found.service,
+        window: Window {
+            start: found.start,
+            end: found.end,
+        },
+        origin: origin_as(map, found.tgt, found.evidence),
+        trail,
+        hops: found.hops,
         barred: present(map, 9),
     })
 }

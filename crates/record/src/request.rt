@@ -2,6 +2,8 @@
 use crate::both;
 use crate::errors::is_accepted;
 use crate::found::Found;
+use crate::found::Part;
+use crate::found::Parts;
 use crate::map_of;
 use crate::present;
 use crate::reader::accepted;
@@ -18,11 +20,10 @@ use definitions::Request;
 use definitions::RequestReading;
 use definitions::Span;
 ghost use mathlib.Core.Path.{_≡_};
-ghost use mathlib.Core.Bool.{cond};
 ghost use Prim.Native.Nat.{_+_, _≤_, _<_};
 ghost use lib.ListN.{length};
-ghost use Rattle.definitions.specs.Fields.{hasBit, mapOf, fieldAt, unitsSize, offsetOf, fieldOf};
-ghost use Rattle.record.specs.Cursor.{cursorMost, Taken};
+ghost use Rattle.definitions.specs.Fields.{mapOf, fieldAt, offsetOf, fieldOf};
+ghost use Rattle.record.specs.Cursor.{cursorMost, Taken, Counted, Parted};
 ghost use Rattle.definitions.specs.Requests.{requestLayout, mapFits, pathIf, pathOf, embeddedIn, hasTicket, refusedRequest, requestFor, readRequest};
 
 // The map bits that a request of each kind needs, and those that it may have (R4.2). There is no kind 0.
@@ -89,28 +90,69 @@ fn path_of(kind: u8, map: u16) -> Path
     }
 }
 
+// What the field of a map bit is made of.
+fn request_row(bit: usize) -> Field
+    requires { ⌜ bit < length requestLayout ⌝ }
+    ensures { λ r. ⌜ r ≡ fieldAt requestLayout bit ⌝ }
+{
+    LAYOUT[bit]
+}
+
 // The field of a map bit at the cursor.
 fn request_field(bytes: &[u8], map: u16, bit: usize, at: usize) -> Found
     requires { ⌜ (bit < length requestLayout) × (at ≡ offsetOf requestLayout (now bytes) map bit) × (at ≤ cursorMost bit) ⌝ }
-    ensures { λ r. ⌜ Taken requestLayout (now (bytes .entry)) map bit at r ⌝ }
+    ensures { λ r. ⌜ Taken requestLayout (now (bytes .entry)) map bit r ⌝ }
 {
-    take_field(bytes, map, bit, LAYOUT[bit], at)
+    take_field(bytes, map, bit, request_row(bit), at)
 }
 
-// Where the bytes lie that a field at the cursor counts.
-fn span_at(map: u16, bit: usize, at: usize, count: u32) -> Span
-    requires { ⌜ (bit < length requestLayout) × (at ≤ cursorMost bit) ⌝ }
-    ensures { λ r. ⌜ r ≡ record { at = cond (hasBit map bit) (at + fieldAt requestLayout bit .head) 0; len = unitsSize (fieldAt requestLayout bit) count } ⌝ }
+// The part of the request that the field of a map bit counts, at the cursor.
+fn part_at(bytes: &[u8], map: u16, bit: usize, at: usize) -> Part
+    requires { ⌜ (bit < length requestLayout) × (at ≡ offsetOf requestLayout (now bytes) map bit) × (at ≤ cursorMost bit) ⌝ }
+    ensures { λ r. ⌜ Counted (now (bytes .entry)) map bit r ⌝ }
 {
-    let field = LAYOUT[bit];
-    let len = field.unit * (count % 256) as usize;
+    let found = request_field(bytes, map, bit, at);
+    let field = request_row(bit);
+    let len = field.unit * (found.value % 256) as usize;
+    let next = found.next;
     if present(map, bit) {
-        Span {
+        let span = Span {
             at: at + field.head,
             len,
-        }
+        };
+        Part { span, next }
     } else {
-        Span { at: 0, len }
+        let span = Span { at: 0, len };
+        Part { span, next }
+    }
+}
+
+// The fields of a request, front to back, each taken once.
+fn parts_of(bytes: &[u8], map: u16) -> Parts
+    ensures { λ r. ⌜ Parted (now (bytes .entry)) map r ⌝ }
+{
+    let first = request_field(bytes, map, 0, 2);
+    let options = request_field(bytes, map, 1, first.next);
+    let pac_options = request_field(bytes, map, 2, options.next);
+    let till = request_field(bytes, map, 3, pac_options.next);
+    let tgt = part_at(bytes, map, 4, till.next);
+    let evidence = part_at(bytes, map, 5, tgt.next);
+    let user = part_at(bytes, map, 6, evidence.next);
+    let service = part_at(bytes, map, 7, user.next);
+    let past = service.next;
+    let tgt = tgt.span;
+    let evidence = evidence.span;
+    let user = user.span;
+    let service = service.span;
+    Parts {
+        options: options.value,
+        pac_options: pac_options.value,
+        till: till.value,
+        tgt,
+        evidence,
+        user,
+        service,
+        past,
     }
 }
 
@@ -165,40 +207,37 @@ pub fn request_path(bytes: &[u8]) -> Path
     path_of(kind.value as u8, map)
 }
 
-// The request of the bytes on a decision path, front to back, or 60.
+// The request of the bytes on a decision path, or 60.
 pub fn read_rest(bytes: &[u8], kind: Kind) -> RequestReading
     ensures { λ r. ⌜ r ≡ requestFor (now (bytes .entry)) (mapOf (now (bytes .entry))) (Path.Decide kind) ⌝ }
 {
     let map = map_of(bytes);
-    let first = request_field(bytes, map, 0, 2);
-    let options = request_field(bytes, map, 1, first.next);
-    let pac_options = request_field(bytes, map, 2, options.next);
-    let till = request_field(bytes, map, 3, pac_options.next);
-    let tgt = request_field(bytes, map, 4, till.next);
-    let evidence = request_field(bytes, map, 5, tgt.next);
-    let user = request_field(bytes, map, 6, evidence.next);
-    let service = request_field(bytes, map, 7, user.next);
-    if bytes.len() != service.next {
+    let parts = parts_of(bytes, map);
+    if bytes.len() != parts.past {
         return refused_request();
     }
-    let t = embedded_in(bytes, map, 4, span_at(map, 4, till.next, tgt.value));
-    let e = embedded_in(bytes, map, 5, span_at(map, 5, tgt.next, evidence.value));
+    let tgt = parts.tgt;
+    let evidence = parts.evidence;
+    let t = embedded_in(bytes, map, 4, tgt);
+    let e = embedded_in(bytes, map, 5, evidence);
     if !both(has_ticket(t), has_ticket(e)) {
         return refused_request();
     }
-    let t = t.ticket;
-    let e = e.ticket;
+    let tgt = t.ticket;
+    let evidence = e.ticket;
+    let user = parts.user;
+    let service = parts.service;
     RequestReading {
         answer: Answer::Accepted,
         request: Request {
             kind,
-            options: options.value,
-            pac_options: pac_options.value,
-            till: till.value,
-            tgt: t,
-            evidence: e,
-            user: span_at(map, 6, evidence.next, user.value),
-            service: span_at(map, 7, user.next, service.value),
+            options: parts.options,
+            pac_options: parts.pac_options,
+            till: parts.till,
+            tgt,
+            evidence,
+            user,
+            service,
         },
     }
 }

@@ -2,8 +2,8 @@
 // Each function that puts bytes returns the position past them.
 use crate::both;
 use crate::present;
-use crate::reader::LAYOUT;
 use crate::reader::hops_fit;
+use crate::reader::ticket_row;
 use crate::ticket::evidence_of;
 use crate::ticket::origin_map;
 use crate::ticket::tgt_of;
@@ -16,13 +16,13 @@ use definitions::TRAIL_LIMIT;
 use definitions::Ticket;
 use definitions::Written;
 ghost use mathlib.Core.Path.{_≡_};
-ghost use Prim.Native.Nat.{_+_, _*_, _≤_, _<_};
+ghost use Prim.Native.Nat.{_+_, _≤_, _<_};
 ghost use lib.ListN.{length, take, drop};
 ghost use Rattle.definitions.specs.Limits.{longestRecord, trailLimit};
 ghost use Rattle.definitions.specs.Fields.{bigEndian, plain, fieldBytes};
 ghost use Rattle.definitions.specs.TicketRecords.{ticketLayout, mapFor, allZero, serviceFits, wellFormed, recordAs};
 ghost use Rattle.definitions.specs.Output.{writtenOf, outputOf};
-ghost use Rattle.record.specs.Cursor.{headsMost, Wrote};
+ghost use Rattle.record.specs.Cursor.{putMost, Wrote};
 
 // The map of an origin, with or without the barred mark.
 fn map_for(origin: Origin, barred: bool) -> u16
@@ -92,12 +92,13 @@ fn copy(out: &mut [u8], at: usize, src: &[u8], n: usize) -> usize
 
 // Puts the field of a map bit that holds a plain number, if the map has it.
 fn put_field(out: &mut [u8], at: usize, map: u16, bit: usize, number: u32) -> usize
-    requires { ⌜ (bit < length ticketLayout) × (at ≤ headsMost ticketLayout bit) × (longestRecord ≤ length (now out)) ⌝ }
+    requires { ⌜ (bit < length ticketLayout) × (at ≤ putMost ticketLayout bit) × (longestRecord ≤ length (now out)) ⌝ }
     ensures put { λ r. ⌜ Wrote (now (out .entry)) at (fieldBytes ticketLayout map bit (plain number)) (now (out .exit)) r ⌝ }
-    ensures bounded { λ r. ⌜ (r ≤ headsMost ticketLayout (bit + 1)) × (longestRecord ≤ length (now (out .exit))) ⌝ }
+    ensures bounded { λ r. ⌜ (r ≤ putMost ticketLayout (bit + 1)) × (longestRecord ≤ length (now (out .exit))) ⌝ }
 {
     if present(map, bit) {
-        put(out, at, LAYOUT[bit].head, number)
+        let field = ticket_row(bit);
+        put(out, at, field.head, number)
     } else {
         at
     }
@@ -111,15 +112,15 @@ fn put_trail(
     trail: [Principal; TRAIL_LIMIT],
     hops: u8,
 ) -> usize
-    requires { ⌜ (at ≤ headsMost ticketLayout 8) × (hops ≤ trailLimit) × (longestRecord ≤ length (now out)) ⌝ }
+    requires { ⌜ (at ≤ putMost ticketLayout 8) × (hops ≤ trailLimit) × (longestRecord ≤ length (now out)) ⌝ }
     ensures put { λ r. ⌜ Wrote (now (out .entry)) at (fieldBytes ticketLayout map 8 (record { number = hops; counted = take hops trail })) (now (out .exit)) r ⌝ }
-    ensures bounded { λ r. ⌜ r ≤ longestRecord ⌝ }
+    ensures bounded { λ r. ⌜ (r ≤ putMost ticketLayout 9) × (longestRecord ≤ length (now (out .exit))) ⌝ }
 {
-    let next = put_field(out, at, map, 8, hops as u32);
     if present(map, 8) {
+        let next = put(out, at, 1, hops as u32);
         copy(out, next, &trail, hops as usize)
     } else {
-        next
+        at
     }
 }
 
@@ -131,15 +132,20 @@ fn put_record(out: &mut [u8], t: Ticket, map: u16) -> usize
 {
     let origin = t.origin;
     let trail = t.trail;
+    let number = t.number as u32;
+    let client = t.client as u32;
+    let service = t.service as u32;
+    let tgt = tgt_of(origin) as u32;
+    let evidence = evidence_of(origin) as u32;
     let a = put(out, 0, 2, map as u32);
-    let a = put_field(out, a, map, 0, t.number as u32);
+    let a = put_field(out, a, map, 0, number);
     let a = put_field(out, a, map, 1, t.flags);
-    let a = put_field(out, a, map, 2, t.client as u32);
-    let a = put_field(out, a, map, 3, t.service as u32);
+    let a = put_field(out, a, map, 2, client);
+    let a = put_field(out, a, map, 3, service);
     let a = put_field(out, a, map, 4, t.window.start);
     let a = put_field(out, a, map, 5, t.window.end);
-    let a = put_field(out, a, map, 6, tgt_of(origin) as u32);
-    let a = put_field(out, a, map, 7, evidence_of(origin) as u32);
+    let a = put_field(out, a, map, 6, tgt);
+    let a = put_field(out, a, map, 7, evidence);
     put_trail(out, a, map, trail, t.hops)
 }
 

@@ -1,4 +1,4 @@
 -- Laws of the code of layer 2.
-pub mod Traces
+pub mod NameSearch
 pub mod Stages
 pub mod Lanes

@@ -1,4 +1,4 @@
 -- How the code of layer 2 goes along; no exported promise speaks of it.
-pub mod Traces
+pub mod NameSearch
 pub mod Stages
 pub mod Lanes

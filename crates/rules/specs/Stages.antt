@@ -1,5 +1,5 @@
--- The stages of a decision (R6.2): what is left of it once the presented tickets are found good. No exported promise speaks of it; the laws of the same
--- name tie the stages to the list of each kind's checks.
+-- The stages of a decision (R6.2): the tickets that a request presents, and what is left past them. No exported promise speaks of them; the
+-- laws of the same name tie them to the list of each kind's checks.
 -- Assumes nothing.
 use mathlib.Core.Bool.{Bool}
 use mathlib.Core.List.{_∷_, _++_}

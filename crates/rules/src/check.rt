@@ -4,7 +4,6 @@ use crate::accounts::is_service;
 use definitions::Account;
 use definitions::Answer;
 use definitions::Error;
-use definitions::Held;
 use definitions::LONGEST_RECORD;
 use definitions::Moment;
 use definitions::Origin;
@@ -19,13 +18,20 @@ ghost use mathlib.Core.Bool.{not, cond};
 ghost use mathlib.Core.Path.{_≡_};
 ghost use Rattle.definitions.specs.Checks.{andThen, judge};
 ghost use Rattle.definitions.specs.Validity.{notYet, ended};
-ghost use Rattle.definitions.specs.Decisions.{isInitial, isHeld, openingChecks, tgtChecks, evidenceChecks, serviceCheck, userChecks, hopChecks, lastChecks};
+ghost use Rattle.definitions.specs.Decisions.{isInitial, openingChecks, tgtChecks, evidenceChecks, serviceCheck, userChecks, hopChecks, lastChecks};
 
 // What comes after a check that holds, or its refusal.
 pub(crate) fn unless(holds: bool, error: Error, rest: Answer) -> Answer
     ensures { λ r. ⌜ r ≡ cond holds rest (Answer.Refused error) ⌝ }
 {
     if holds { rest } else { Answer::Refused(error) }
+}
+
+// A refusal, or else what comes after it.
+pub(crate) fn and_then(first: Answer, rest: Answer) -> Answer
+    ensures { λ r. ⌜ r ≡ andThen first rest ⌝ }
+{
+    if is_accepted(first) { rest } else { first }
 }
 
 // The checks before the kind matters: 60, by what the reader answered; 52.
@@ -55,18 +61,6 @@ fn is_initial(origin: Origin) -> bool
     }
 }
 
-// Whether a presented ticket is the one that the ledger holds.
-fn is_held(held: Held, ticket: Ticket) -> bool
-    ensures { λ r. ⌜ r ≡ isHeld held ticket ⌝ }
-{
-    let kept = held.ticket;
-    if held.found {
-        record::same_ticket(kept, ticket)
-    } else {
-        false
-    }
-}
-
 // The checks of a presented ticket's window: 33, 32; then what comes after them.
 fn check_window(window: Window, clock: u32, rest: Answer) -> Answer
     ensures { λ r. ⌜ r ≡ cond (not (notYet window clock)) (cond (not (ended window clock)) rest (Answer.Refused Error.«KRB_AP_ERR_TKT_EXPIRED»)) (Answer.Refused Error.«KRB_AP_ERR_TKT_NYV») ⌝ }
@@ -82,19 +76,18 @@ fn check_window(window: Window, clock: u32, rest: Answer) -> Answer
 }
 
 // The checks of the TGT: 41; 35; 33 and 32; 18.
-pub(crate) fn check_tgt(clock: u32, tgt: Ticket, held: Held, client: Account) -> Answer
+pub(crate) fn check_tgt(clock: u32, tgt: Ticket, held: bool, client: Account) -> Answer
     ensures { λ r. ⌜ r ≡ judge (tgtChecks clock (record { ticket = tgt; held = held; client = client })) ⌝ }
 {
     let origin = tgt.origin;
-    let window = tgt.window;
     let last = unless(
         is_enabled(client),
         Error::KDC_ERR_CLIENT_REVOKED,
         Answer::Accepted,
     );
-    let times = check_window(window, clock, last);
+    let times = check_window(tgt.window, clock, last);
     unless(
-        is_held(held, tgt),
+        held,
         Error::KRB_AP_ERR_MODIFIED,
         unless(is_initial(origin), Error::KRB_AP_ERR_NOT_US, times),
     )
@@ -104,14 +97,13 @@ pub(crate) fn check_tgt(clock: u32, tgt: Ticket, held: Held, client: Account) ->
 pub(crate) fn check_evidence(
     clock: u32,
     evidence: Ticket,
-    held: Held,
+    held: bool,
     client: Account,
     number1: Principal,
 ) -> Answer
     ensures { λ r. ⌜ r ≡ judge (evidenceChecks clock (record { ticket = evidence; held = held; client = client }) number1) ⌝ }
 {
     let origin = evidence.origin;
-    let window = evidence.window;
     let last = unless(
         is_enabled(client),
         Error::KDC_ERR_CLIENT_REVOKED,
@@ -122,8 +114,8 @@ pub(crate) fn check_evidence(
         Error::KDC_ERR_SERVER_NOMATCH,
         last,
     );
-    let times = check_window(window, clock, matched);
-    unless(is_held(held, evidence), Error::KRB_AP_ERR_MODIFIED, times)
+    let times = check_window(evidence.window, clock, matched);
+    unless(held, Error::KRB_AP_ERR_MODIFIED, times)
 }
 
 // The checks of a user: 6, 18; then what comes after them.

@@ -1,6 +1,7 @@
 // The four decisions: which ticket a request is given, or which number refuses it (R5.4 to R5.8, R6.2). Each goes by stages: the tickets that are
 // presented, then the name, then the rest (specs/Stages.antt).
 use crate::accounts::is_service;
+use crate::check::and_then;
 use crate::check::check_evidence;
 use crate::check::check_hop;
 use crate::check::check_last;
@@ -9,9 +10,6 @@ use crate::check::check_tgt;
 use crate::check::check_user;
 use crate::check::unless;
 use crate::name::find_name;
-use crate::options::asks_forwardable;
-use crate::options::has_cname_in_addl_tkt;
-use crate::options::is_resource_based;
 use crate::routes::is_permitted;
 use crate::tickets::direct_ticket;
 use crate::tickets::initial_ticket;
@@ -26,12 +24,9 @@ use definitions::Account;
 use definitions::Answer;
 use definitions::Decision;
 use definitions::Error;
-use definitions::Held;
-use definitions::Kind;
 use definitions::Moment;
 use definitions::Named;
 use definitions::Principal;
-use definitions::Request;
 use definitions::Span;
 use definitions::Ticket;
 use record::is_accepted;
@@ -39,7 +34,7 @@ use record::name_in;
 ghost use mathlib.Core.Path.{_≡_};
 ghost use Rattle.definitions.specs.Requests.{partOf};
 ghost use Rattle.definitions.specs.AccountWords.{tableOf};
-ghost use Rattle.definitions.specs.Decisions.{refuse, grant, past, named, presented, decideInitial, decideDirect, decideS4U2self, decideS4U2proxy, decide};
+ghost use Rattle.definitions.specs.Decisions.{refuse, grant, past, named, presented, decideInitial, decideDirect, decideS4U2self, decideS4U2proxy};
 ghost use Rattle.rules.specs.Stages.{finishDirect, finishS4U2self, finishS4U2proxy};
 
 // An answer that is a refusal, with a blank ticket beside it.
@@ -56,12 +51,13 @@ pub fn refuse(answer: Answer) -> Decision
 fn conclude(answer: Answer, ticket: Ticket) -> Decision
     ensures { λ r. ⌜ r ≡ past answer (grant ticket) ⌝ }
 {
-    match answer {
-        Answer::Accepted => Decision {
+    if is_accepted(answer) {
+        Decision {
             answer: Answer::Accepted,
             ticket,
-        },
-        Answer::Refused(error) => refuse(Answer::Refused(error)),
+        }
+    } else {
+        refuse(answer)
     }
 }
 
@@ -76,13 +72,20 @@ fn find_named(words: &AccountWords, bytes: &[u8], span: Span) -> Named
     }
 }
 
-// Kind 1 for a user.
-fn decide_initial(moment: Moment, asked: bool, till: u32, user: Named) -> Decision
-    ensures { λ r. ⌜ r ≡ decideInitial moment asked till user ⌝ }
+// Kind 1 for the user of a name.
+pub fn decide_initial(
+    words: &AccountWords,
+    bytes: &[u8],
+    moment: Moment,
+    asked: bool,
+    till: u32,
+    name: Span,
+) -> Decision
+    ensures { λ r. ⌜ r ≡ decideInitial moment asked till (named (tableOf (now (words .entry))) (partOf (now (bytes .entry)) name)) ⌝ }
 {
-    let account = user.account;
-    let window = initial_window(moment.clock, account.lifetime, till);
-    let answer = check_user(account, check_last(moment, window));
+    let user = find_named(words, bytes, name);
+    let window = initial_window(moment.clock, user.account.lifetime, till);
+    let answer = check_user(user.account, check_last(moment, window));
     conclude(answer, initial_ticket(moment.next, asked, user, window))
 }
 
@@ -97,10 +100,8 @@ fn finish_direct(
 ) -> Decision
     ensures { λ r. ⌜ r ≡ finishDirect moment asked till tgt client service ⌝ }
 {
-    let account = service.account;
-    let shown = tgt.window;
-    let window = grant_window(moment.clock, account.lifetime, till, shown.end);
-    let answer = check_service(account, check_last(moment, window));
+    let window = grant_window(moment.clock, service.account.lifetime, till, tgt.window.end);
+    let answer = check_service(service.account, check_last(moment, window));
     conclude(
         answer,
         direct_ticket(moment.next, asked, tgt, client, service.number, window),
@@ -118,10 +119,8 @@ fn finish_s4u2self(
 ) -> Decision
     ensures { λ r. ⌜ r ≡ finishS4U2self moment asked till tgt service1 user ⌝ }
 {
-    let account = user.account;
-    let shown = tgt.window;
-    let window = grant_window(moment.clock, service1.lifetime, till, shown.end);
-    let rest = check_user(account, check_last(moment, window));
+    let window = grant_window(moment.clock, service1.lifetime, till, tgt.window.end);
+    let rest = check_user(user.account, check_last(moment, window));
     let answer = unless(
         is_service(service1),
         Error::KDC_ERR_S_PRINCIPAL_UNKNOWN,
@@ -144,70 +143,70 @@ fn finish_s4u2proxy(
 ) -> Decision
     ensures { λ r. ⌜ r ≡ finishS4U2proxy moment permitted till tgt evidence service2 ⌝ }
 {
-    let account = service2.account;
-    let v = tgt.window;
-    let w = evidence.window;
-    let window = hop_window(moment.clock, account.lifetime, till, v.end, w.end);
+    let window = hop_window(
+        moment.clock,
+        service2.account.lifetime,
+        till,
+        tgt.window.end,
+        evidence.window.end,
+    );
     let rest = check_hop(permitted, evidence, check_last(moment, window));
-    let answer = check_service(account, rest);
-    if is_accepted(answer) {
-        conclude(
-            answer,
-            s4u2proxy_ticket(moment.next, tgt, evidence, service2.number, window),
-        )
-    } else {
-        refuse(answer)
+    let answer = check_service(service2.account, rest);
+    if !is_accepted(answer) {
+        return refuse(answer);
     }
+    conclude(
+        answer,
+        s4u2proxy_ticket(moment.next, tgt, evidence, service2.number, window),
+    )
 }
 
-// Kind 2.
-fn decide_direct(
+// Kind 2 to the service of a name.
+pub fn decide_direct(
     words: &AccountWords,
     bytes: &[u8],
     moment: Moment,
     asked: bool,
     till: u32,
     tgt: Ticket,
-    held: Held,
-    service: Span,
+    held: bool,
+    name: Span,
 ) -> Decision
-    ensures { λ r. ⌜ r ≡ decideDirect moment asked till (presented (tableOf (now (words .entry))) held tgt) (named (tableOf (now (words .entry))) (partOf (now (bytes .entry)) service)) ⌝ }
+    ensures { λ r. ⌜ r ≡ decideDirect moment asked till (presented (tableOf (now (words .entry))) held tgt) (named (tableOf (now (words .entry))) (partOf (now (bytes .entry)) name)) ⌝ }
 {
     let client = account_at(words, tgt.client as usize);
     let answer = check_tgt(moment.clock, tgt, held, client);
-    if is_accepted(answer) {
-        let named = find_named(words, bytes, service);
-        finish_direct(moment, asked, till, tgt, client, named)
-    } else {
-        refuse(answer)
+    if !is_accepted(answer) {
+        return refuse(answer);
     }
+    let service = find_named(words, bytes, name);
+    finish_direct(moment, asked, till, tgt, client, service)
 }
 
-// Kind 3.
-fn decide_s4u2self(
+// Kind 3 for the user of a name.
+pub fn decide_s4u2self(
     words: &AccountWords,
     bytes: &[u8],
     moment: Moment,
     asked: bool,
     till: u32,
     tgt: Ticket,
-    held: Held,
-    user: Span,
+    held: bool,
+    name: Span,
 ) -> Decision
-    ensures { λ r. ⌜ r ≡ decideS4U2self moment asked till (presented (tableOf (now (words .entry))) held tgt) (named (tableOf (now (words .entry))) (partOf (now (bytes .entry)) user)) ⌝ }
+    ensures { λ r. ⌜ r ≡ decideS4U2self moment asked till (presented (tableOf (now (words .entry))) held tgt) (named (tableOf (now (words .entry))) (partOf (now (bytes .entry)) name)) ⌝ }
 {
     let service1 = account_at(words, tgt.client as usize);
     let answer = check_tgt(moment.clock, tgt, held, service1);
-    if is_accepted(answer) {
-        let named = find_named(words, bytes, user);
-        finish_s4u2self(moment, asked, till, tgt, service1, named)
-    } else {
-        refuse(answer)
+    if !is_accepted(answer) {
+        return refuse(answer);
     }
+    let user = find_named(words, bytes, name);
+    finish_s4u2self(moment, asked, till, tgt, service1, user)
 }
 
-// Kind 4.
-fn decide_s4u2proxy(
+// Kind 4 to the service of a name.
+pub fn decide_s4u2proxy(
     words: &AccountWords,
     bytes: &[u8],
     moment: Moment,
@@ -215,28 +214,26 @@ fn decide_s4u2proxy(
     resource: bool,
     till: u32,
     tgt: Ticket,
-    tgt_held: Held,
+    tgt_held: bool,
     evidence: Ticket,
-    evidence_held: Held,
-    service: Span,
+    evidence_held: bool,
+    name: Span,
 ) -> Decision
-    ensures { λ r. ⌜ r ≡ decideS4U2proxy moment cname resource till (presented (tableOf (now (words .entry))) «tgt_held» tgt) (presented (tableOf (now (words .entry))) «evidence_held» evidence) (named (tableOf (now (words .entry))) (partOf (now (bytes .entry)) service)) ⌝ }
+    ensures { λ r. ⌜ r ≡ decideS4U2proxy moment cname resource till (presented (tableOf (now (words .entry))) «tgt_held» tgt) (presented (tableOf (now (words .entry))) «evidence_held» evidence) (named (tableOf (now (words .entry))) (partOf (now (bytes .entry)) name)) ⌝ }
 {
     let service1 = account_at(words, tgt.client as usize);
-    let first = check_tgt(moment.clock, tgt, tgt_held, service1);
-    if !is_accepted(first) {
-        return refuse(first);
-    }
     let client = account_at(words, evidence.client as usize);
-    let second = check_evidence(moment.clock, evidence, evidence_held, client, tgt.client);
-    if !is_accepted(second) {
-        return refuse(second);
+    let answer = and_then(
+        check_tgt(moment.clock, tgt, tgt_held, service1),
+        check_evidence(moment.clock, evidence, evidence_held, client, tgt.client),
+    );
+    if !is_accepted(answer) {
+        return refuse(answer);
     }
-    let service2 = find_named(words, bytes, service);
-    let account = service2.account;
+    let service2 = find_named(words, bytes, name);
     let permitted = is_permitted(
         service1,
-        account,
+        service2.account,
         cname,
         resource,
         tgt.client,
@@ -244,42 +241,4 @@ fn decide_s4u2proxy(
         service2.number,
     );
     finish_s4u2proxy(moment, permitted, till, tgt, evidence, service2)
-}
-
-// What a readable request is answered, given the accounts, the request's bytes, and what the ledger holds at the numbers of its TGT and its evidence.
-pub fn decide(
-    words: &AccountWords,
-    bytes: &[u8],
-    request: Request,
-    tgt_held: Held,
-    evidence_held: Held,
-    moment: Moment,
-) -> Decision
-    ensures { λ r. ⌜ r ≡ decide (tableOf (now (words .entry))) (now (bytes .entry)) request «tgt_held» «evidence_held» moment ⌝ }
-{
-    let kind = request.kind;
-    let tgt = request.tgt;
-    let evidence = request.evidence;
-    let user = request.user;
-    let service = request.service;
-    let till = request.till;
-    let asked = asks_forwardable(request.options);
-    match kind {
-        Kind::Initial => decide_initial(moment, asked, till, find_named(words, bytes, user)),
-        Kind::Direct => decide_direct(words, bytes, moment, asked, till, tgt, tgt_held, service),
-        Kind::S4U2self => decide_s4u2self(words, bytes, moment, asked, till, tgt, tgt_held, user),
-        Kind::S4U2proxy => decide_s4u2proxy(
-            words,
-            bytes,
-            moment,
-            has_cname_in_addl_tkt(request.options),
-            is_resource_based(request.pac_options),
-            till,
-            tgt,
-            tgt_held,
-            evidence,
-            evidence_held,
-            service,
-        ),
-    }
 }

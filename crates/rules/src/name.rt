@@ -1,6 +1,4 @@
-// Which account a name stands for (R2.6, R2.7). Names come as words; bytes are not seen here.
-use crate::trace::Piece;
-use crate::trace::Trace;
+// Which account a name stands for (R2.6, R2.7). Names come as words.
 use crate::words::AccountWords;
 use crate::words::length_at;
 use crate::words::row_word;
@@ -9,17 +7,18 @@ use definitions::Name;
 use record::both;
 use record::set_length;
 ghost use mathlib.Core.Path.{_≡_};
-ghost use mathlib.Core.Bool.{Bool, true, false};
-ghost use Prim.Native.Nat.{_<_, _≤_};
+ghost use mathlib.Core.Bool.{true};
+ghost use Prim.Native.Nat.{_<_, _≤_, _*_};
+ghost use lib.Bits.{bitAnd};
 ghost use lib.Dec.{eqb};
-ghost use Rattle.definitions.specs.Limits.{accountLimit, byteBits};
-ghost use Rattle.definitions.specs.AccountWords.{tableOf};
+ghost use Rattle.definitions.specs.Limits.{accountLimit, nameLimit, byteBits};
+ghost use Rattle.definitions.specs.AccountWords.{rowStart, rowWord, nameAt, setLength, tableOf};
 ghost use Rattle.definitions.specs.Words.{laneOf};
-ghost use Rattle.definitions.specs.Names.{lower, folded, findName, nameTaken};
-ghost use Rattle.rules.specs.Traces.{hasName, bytesOf, sameBytes, lows, countFrom, pieceOf, traceOf, nameIn, firstFrom};
+ghost use Rattle.definitions.specs.Names.{lower, folded, agree, findName, nameTaken};
+ghost use Rattle.rules.specs.NameSearch.{bytesOf, hasName, lowsFrom, firstFrom};
 
 // A capital letter as the small one, any other byte as itself.
-fn lower(c: u8) -> u8
+fn lower(c: u64) -> u64
     ensures { λ r. ⌜ r ≡ lower c ⌝ }
 {
     if both(0x41 <= c, c <= 0x5A) {
@@ -29,173 +28,109 @@ fn lower(c: u8) -> u8
     }
 }
 
-// A byte with letter case ignored, or as it is.
-fn folded(ignore: bool, c: u8) -> u8
-    ensures { λ r. ⌜ r ≡ folded ignore c ⌝ }
+// Whether a byte is the same in two words, with letter case ignored or not. Most are as they stand.
+fn same_byte(ignore: bool, a: u64, b: u64, k: usize) -> bool
+    requires { ⌜ k < 8 ⌝ }
+    ensures { λ r. ⌜ r ≡ eqb (folded ignore (laneOf byteBits a k)) (folded ignore (laneOf byteBits b k)) ⌝ }
 {
-    if ignore { lower(c) } else { c }
-}
-
-// Whether two bytes are the same, with letter case ignored or not. Most are as they stand.
-fn same_byte(ignore: bool, a: u8, b: u8) -> bool
-    ensures { λ r. ⌜ r ≡ eqb (folded ignore a) (folded ignore b) ⌝ }
-{
-    if a == b {
+    let shift = 8 * k;
+    let x = (a >> shift) % 256;
+    let y = (b >> shift) % 256;
+    if x == y {
         return true;
     }
-    folded(ignore, a) == folded(ignore, b)
+    both(ignore, lower(x) == lower(y))
 }
 
-// A byte of a word.
-fn byte_of(word: u64, k: usize) -> u8
-    requires { ⌜ k < 8 ⌝ }
-    ensures { λ r. ⌜ r ≡ laneOf byteBits word k ⌝ }
+// Whether as many bytes of a row's words as a name has are the name's, from the last one on.
+fn same_bytes(words: &AccountWords, n: usize, ignore: bool, name: Name) -> bool
+    requires { ⌜ (n < accountLimit) × (name .length ≤ nameLimit) ⌝ }
+    ensures { λ r. ⌜ r ≡ agree ignore (nameAt (now (words .entry)) (rowStart n) (name .length)) (bytesOf name) (name .length) ⌝ }
 {
-    ((word >> (8 * k)) % 256) as u8
-}
-
-// Whether the first bytes of two words agree, from the last one on.
-fn same_bytes(ignore: bool, a: u64, b: u64, count: usize) -> bool
-    requires { ⌜ count ≤ 8 ⌝ }
-    ensures { λ r. ⌜ r ≡ sameBytes ignore a b count ⌝ }
-{
-    let mut i = count;
+    let own = [name.first, name.second, name.third];
+    let mut i = name.length;
     while 0 < i {
         i -= 1;
-        if !same_byte(ignore, byte_of(a, i), byte_of(b, i)) {
+        if !same_byte(ignore, row_word(words, n, i / 8), own[i / 8], i % 8) {
             return false;
         }
     }
     true
 }
 
-// Whether a word may agree with a word of a name: the low five bits of each byte, which letter case leaves alone, are the same.
-fn may_agree(word: u64, p: Piece) -> bool
-    requires { ⌜ p .mask ≡ lows (p .count) ⌝ }
-    ensures { λ r. ⌜ ((f : Bool) → r ≡ false → sameBytes f word (p .word) (p .count) ≡ false) ⌝ }
+// Whether a row whose length is that of a name has its bytes, with letter case ignored or not. Single bytes are looked at only where a word
+// differs.
+pub(crate) fn same_name(words: &AccountWords, n: usize, ignore: bool, name: Name) -> bool
+    requires { ⌜ (n < accountLimit) × (name .length ≤ nameLimit) ⌝ }
+    ensures { λ r. ⌜ r ≡ agree ignore (nameAt (now (words .entry)) (rowStart n) (name .length)) (bytesOf name) (name .length) ⌝ }
 {
-    word & p.mask == p.word & p.mask
-}
-
-// Whether a word agrees with a word of a name. Few that may agree come to the bytes: most are equal.
-fn same_word(ignore: bool, word: u64, p: Piece) -> bool
-    requires { ⌜ p .count ≤ 8 ⌝ }
-    ensures { λ r. ⌜ r ≡ sameBytes ignore word (p .word) (p .count) ⌝ }
-{
-    if word == p.word {
+    let a = name.first;
+    let b = name.second;
+    let c = name.third;
+    let first = row_word(words, n, 0) == a;
+    let second = row_word(words, n, 1) == b;
+    let third = row_word(words, n, 2) == c;
+    if both(first, both(second, third)) {
         return true;
     }
-    same_bytes(ignore, word, p.word, p.count)
+    same_bytes(words, n, ignore, name)
 }
 
 // The low five bits of each of eight bytes.
 const LOWS: u64 = 0x1F1F1F1F1F1F1F1F;
 
-// How many of so many bytes lie in the word from a position on.
-fn count_from(length: usize, from: usize) -> usize
-    ensures { λ r. ⌜ r ≡ countFrom length from ⌝ }
+// The low five bits of those bytes of the word from a position on that lie in a name of a length.
+fn lows_from(length: usize, from: usize) -> u64
+    ensures { λ r. ⌜ r ≡ lowsFrom length from ⌝ }
 {
     if length <= from {
         return 0;
     }
-    if length - from < 8 { length - from } else { 8 }
-}
-
-// The mask of the low five bits of some bytes.
-fn mask_of(count: usize) -> u64
-    requires { ⌜ count ≤ 8 ⌝ }
-    ensures { λ r. ⌜ r ≡ lows count ⌝ }
-{
-    if count == 0 {
-        0
-    } else {
-        LOWS >> (64 - 8 * count)
+    if 8 <= length - from {
+        return LOWS;
     }
+    LOWS >> (64 - 8 * (length - from))
 }
 
-// A word of a name of a length, from a position on.
-fn piece_of(word: u64, length: usize, from: usize) -> Piece
-    ensures { λ r. ⌜ r ≡ pieceOf word (countFrom length from) ⌝ }
+// Whether a row's word may agree with a name's: the low five bits of each byte of the name, which letter case leaves alone, are the same.
+fn may_agree(words: &AccountWords, n: usize, k: usize, word: u64, length: usize) -> bool
+    requires { ⌜ (n < accountLimit) × (k < 3) ⌝ }
+    ensures { λ r. ⌜ r ≡ eqb (bitAnd (rowWord (now (words .entry)) n k) (lowsFrom length (8 * k))) (bitAnd word (lowsFrom length (8 * k))) ⌝ }
 {
-    let count = count_from(length, from);
-    Piece {
-        word,
-        count,
-        mask: mask_of(count),
-    }
+    let mask = lows_from(length, 8 * k);
+    row_word(words, n, k) & mask == word & mask
 }
 
-// The trace of a name.
-pub(crate) fn trace_of(name: Name) -> Trace
-    ensures { λ r. ⌜ r ≡ traceOf name ⌝ }
+// Whether a row is set and matches a name. Few that do not get past the length and the low bits.
+fn matches_name(words: &AccountWords, n: usize, name: Name) -> bool
+    requires { ⌜ (n < accountLimit) × (setLength (name .length) ≡ true) ⌝ }
+    ensures { λ r. ⌜ r ≡ hasName (now (words .entry)) n true (bytesOf name) ⌝ }
 {
     let length = name.length;
-    Trace {
-        length,
-        first: piece_of(name.first, length, 0),
-        second: piece_of(name.second, length, 8),
-        third: piece_of(name.third, length, 16),
-    }
-}
-
-// Whether a row may have a name. The length is looked at first. Few that have not the name get past this.
-fn may_match(words: &AccountWords, n: usize, t: Trace) -> bool
-    requires { ⌜ (n < accountLimit) × (t ≡ traceOf (nameIn t)) ⌝ }
-    ensures { λ r. ⌜ ((f : Bool) → r ≡ false → hasName (now (words .entry)) n f (bytesOf (nameIn t)) ≡ false) ⌝ }
-{
-    if length_at(words, n) != t.length {
+    if length_at(words, n) != length {
         return false;
     }
-    if !may_agree(row_word(words, n, 0), t.first) {
+    if !may_agree(words, n, 0, name.first, length) {
         return false;
     }
-    if !may_agree(row_word(words, n, 1), t.second) {
+    if !may_agree(words, n, 1, name.second, length) {
         return false;
     }
-    may_agree(row_word(words, n, 2), t.third)
-}
-
-// Whether a row is set and has a name, with letter case ignored or not.
-pub(crate) fn has_name(words: &AccountWords, n: usize, ignore: bool, t: Trace) -> bool
-    requires { ⌜ (n < accountLimit) × (t ≡ traceOf (nameIn t)) ⌝ }
-    ensures { λ r. ⌜ r ≡ hasName (now (words .entry)) n ignore (bytesOf (nameIn t)) ⌝ }
-{
-    if length_at(words, n) != t.length {
+    if !may_agree(words, n, 2, name.third, length) {
         return false;
     }
-    if !same_word(ignore, row_word(words, n, 0), t.first) {
-        return false;
-    }
-    if !same_word(ignore, row_word(words, n, 1), t.second) {
-        return false;
-    }
-    if !same_word(ignore, row_word(words, n, 2), t.third) {
-        return false;
-    }
-    set_length(t.length)
-}
-
-// Whether a row is set and matches a name.
-fn matches_name(words: &AccountWords, n: usize, t: Trace) -> bool
-    requires { ⌜ (n < accountLimit) × (t ≡ traceOf (nameIn t)) ⌝ }
-    ensures { λ r. ⌜ r ≡ hasName (now (words .entry)) n true (bytesOf (nameIn t)) ⌝ }
-{
-    if may_match(words, n, t) {
-        has_name(words, n, true, t)
-    } else {
-        false
-    }
+    same_name(words, n, true, name)
 }
 
 // The lowest account other than a given one that is set and matches a name; one past the last where none does.
 fn first_match(words: &AccountWords, name: Name, except: usize) -> usize
+    requires { ⌜ setLength (name .length) ≡ true ⌝ }
     ensures exact { λ r. ⌜ r ≡ firstFrom except 0 (tableOf (now (words .entry))) (bytesOf name) ⌝ }
     ensures bounded { λ r. ⌜ r ≤ accountLimit ⌝ }
 {
-    let t = trace_of(name);
     let mut i = 0;
     while i < ACCOUNT_LIMIT {
-        if both(i != except, matches_name(words, i, t)) {
+        if both(i != except, matches_name(words, i, name)) {
             return i;
         }
         i += 1;
@@ -203,16 +138,20 @@ fn first_match(words: &AccountWords, name: Name, except: usize) -> usize
     ACCOUNT_LIMIT
 }
 
-// The lowest account that is set and matches a name; one past the last where none does.
+// The lowest account that is set and matches a name; one past the last where none does. A length that no name has is found nowhere.
 pub(crate) fn find_name(words: &AccountWords, name: Name) -> usize
     ensures exact { λ r. ⌜ r ≡ findName (tableOf (now (words .entry))) (bytesOf name) ⌝ }
     ensures bounded { λ r. ⌜ r ≤ accountLimit ⌝ }
 {
+    if !set_length(name.length) {
+        return ACCOUNT_LIMIT;
+    }
     first_match(words, name, ACCOUNT_LIMIT)
 }
 
 // Whether another account than a given one is set and matches a name.
 pub(crate) fn name_taken(words: &AccountWords, number: usize, name: Name) -> bool
+    requires { ⌜ setLength (name .length) ≡ true ⌝ }
     ensures { λ r. ⌜ r ≡ nameTaken number 0 (tableOf (now (words .entry))) (bytesOf name) ⌝ }
 {
     first_match(words, name, number) < ACCOUNT_LIMIT

@@ -11,21 +11,21 @@ pub(crate) fn is_forwardable(flags: u32) -> bool
 }
 
 // Whether a request's options ask for FORWARDABLE.
-pub(crate) fn asks_forwardable(options: u32) -> bool
+pub fn asks_forwardable(options: u32) -> bool
     ensures { λ r. ⌜ r ≡ asksForwardable options ⌝ }
 {
     has_bit(options as u64, 30)
 }
 
 // Whether a request's options have CNAME-IN-ADDL-TKT.
-pub(crate) fn has_cname_in_addl_tkt(options: u32) -> bool
+pub fn has_cname_in_addl_tkt(options: u32) -> bool
     ensures { λ r. ⌜ r ≡ hasCnameInAddlTkt options ⌝ }
 {
     has_bit(options as u64, 17)
 }
 
 // Whether a request's PAC options have the resource-based bit.
-pub(crate) fn is_resource_based(options: u32) -> bool
+pub fn is_resource_based(options: u32) -> bool
     ensures { λ r. ⌜ r ≡ isResourceBased options ⌝ }
 {
     has_bit(options as u64, 28)

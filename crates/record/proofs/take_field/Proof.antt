@@ -17,16 +17,16 @@ add-t13 c =
     omega (arith, units-few (c .before .before .before .before .before .before .args .field .unit) (c .before .before .number .result) (p .2))
 
 returns : tie.Need-returns
-returns c L ef ei =
+returns c L l ef ei =
     let a = c .before .before .before .before .before .before .args in
     let p = c .before .before .before .before .before .before .pre in
-    taken-there L (now (a .bytes)) (a .map) (a .bit) (a .at) (a .field) ef ei (p .3) (c .before .before .number .result) (p .1) (p .2)
+    taken-there L (now (a .bytes)) (a .map) (a .bit) (a .at) (a .field) l ef ei (p .3) (c .before .before .number .result) (p .1) (p .2)
     (sym (c .before .before .before .before .present .ensures) ∙ c .before .before .before .if1 .taken) (c .before .before .number .ensures)
 
 returns-2 : tie.Need-returns-2
-returns-2 c L ef ei =
+returns-2 c L l ef ei =
     let a = c .before .before .before .args in
-    taken-absent L (now (a .bytes)) (a .map) (a .bit) (a .at) (a .field) ef ei (c .before .before .before .pre .3) (sym (c .before .present .ensures) ∙ c .if1 .left)
+    taken-absent L (now (a .bytes)) (a .map) (a .bit) (a .at) (a .field) l ef ei (c .before .before .before .pre .3) (sym (c .before .present .ensures) ∙ c .if1 .left)
 
 pub take-field-spec : {M : Type 1} → statement M
 take-field-spec =

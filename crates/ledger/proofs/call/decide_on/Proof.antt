@@ -1,6 +1,4 @@
-use mathlib.Core.Path.{sym, ap, _∙_}
-use Prim.Native.Nat.{ℕ}
-use Rattle.definitions.specs.Decisions.{decide}
+use mathlib.Core.Path.{sym, _∙_}
 use Rattle.ledger.proofs.Lookups.{on-decided}
 use lib.ListN.{length}
 use denote.Ref.{now}
@@ -28,17 +26,15 @@ returns c =
 
 returns-2 : tie.Need-returns-2
 returns-2 c =
-    let a = c .before .before .before .before .before .before .before .before .before .before .before .before .args in
-    let o = c .before .before .before .before .before .before .before .before .before .check-opening in
-    let r = c .before .before .before .before .before .before .before .before .before .before .read-rest in
-    let y = c .before .before .before .before .before .before .before .before .is-accepted in
-    let f = c .before .before .before .presented-for in
-    on-decided (tableOf (now (a .accounts))) (ticketsOf (now (a .ledger))) (nextNumber (now (a .ledger))) (now (a .bytes)) (a .clock) (a .room) (a .kind) (r .result) (o .result) (f .result) (a .count) (c .decide .result)
-    (r .ensures) (o .ensures) (sym (y .ensures) ∙ not-false (y .result) (c .before .before .before .before .before .before .before .if1 .left)) (f .ensures) (c .before .before .before .before .before .before .before .before .before .before .before .before .pre ∙ sym (tickets-length (now (a .ledger))))
-    (c .decide .ensures ∙ ap (λ (n : ℕ). decide (tableOf (now (a .accounts))) (now (a .bytes)) (r .result .request) (f .result .tgt) (f .result .evidence) (record { clock = a .clock; count = a .count; next = n })) (c .before .before .before .before .before .before .before .before .before .before .before .before .pre))
+    let a = c .before .before .before .before .before .before .args in
+    let o = c .before .before .before .check-opening in
+    let r = c .before .before .before .before .read-rest in
+    let y = c .before .before .is-accepted in
+    on-decided (tableOf (now (a .accounts))) (ticketsOf (now (a .ledger))) (nextNumber (now (a .ledger))) (now (a .bytes)) (a .clock) (a .room) (a .kind) (r .result) (o .result) (a .count) (c .decide-read .result)
+    (r .ensures) (o .ensures) (sym (y .ensures) ∙ not-false (y .result) (c .before .if1 .left)) (c .before .before .before .before .before .before .pre ∙ sym (tickets-length (now (a .ledger)))) (c .decide-read .ensures)
 
 pub decide-on-spec : {M : Type 1} → statement M
 decide-on-spec =
     tie.close
     (tie.spec (λ c κs. search needs) (λ c κs. search needs) (λ c κs. search needs) (λ c κs. search needs) returns
-    (λ c κs. search needs) (λ c. search needs) (λ c κs. search needs) returns-2)
+    (λ c κs. search needs) returns-2)

@@ -2,14 +2,15 @@
 use borrow.Author.Needs.{needs}
 use native.Mathlib.Omega.{arith}
 use mathlib.Core.Path.{refl, sym, ap, _∙_}
-use Rattle.definitions.specs.HeldTickets.{firstHeld}
+use Rattle.ledger.specs.Lookups.{firstHeld}
+use Rattle.ledger.proofs.Lookups.{not-there, is-there}
 use Rattle.ledger.specs.declared.steps.Standing.{Standing}
 use denote.Ref.{now}
 use borrow.Author.Tests.{not-true, not-false}
 use Rattle.definitions.specs.LedgerWords.{ticketsOf}
 use Rattle.definitions.specs.Descent.{backOf, descent, descended}
 use Rattle.ledger.specs.BackSteps.{backTo, oneMore}
-use Rattle.definitions.proofs.Descent.{not-there, is-there, steps-none, steps-here, steps-on, steps-stuck}
+use Rattle.definitions.proofs.Descent.{steps-none, steps-here, steps-on, steps-stuck}
 use Rattle.ledger.proofs.BackSteps.{back-stop, back-to, more-one, one-more-most}
 use Prim.Native.Nat.{ℕ, _<_}
 use borrow.Fn.Kinds.{In}

@@ -1,5 +1,4 @@
-use mathlib.Core.Path.{ap}
-use Rattle.definitions.specs.declared.ticket.Ticket.{Ticket}
+use mathlib.Core.Path.{refl, sym}
 use Rattle.definitions.proofs.Equality.{decides-both, decides-as, decides-by, same-tickets}
 use borrow.Author.Needs.{needs}
 use Rattle.record.proofs.compare.same_ticket.Statement.{statement}
@@ -10,19 +9,7 @@ returns c =
     let x = c .before .before .before .before .before .before .before .before .before .args .a in
     let y = c .before .before .before .before .before .before .before .before .before .args .b in
     decides-as (λ h. same-tickets x y (h .0) (h .1 .0 .0) (h .1 .0 .1) (h .1 .1))
-    (λ e. (
-      record {
-        number = ap (λ (t : Ticket). t .number) e;
-        flags = ap (λ (t : Ticket). t .flags) e;
-        client = ap (λ (t : Ticket). t .client) e;
-        service = ap (λ (t : Ticket). t .service) e;
-        barred = ap (λ (t : Ticket). t .barred) e;
-      },
-      (
-        (ap (λ (t : Ticket). t .window) e, ap (λ (t : Ticket). t .origin) e),
-        (ap (λ (t : Ticket). t .trail) e, ap (λ (t : Ticket). t .hops) e),
-      ),
-    ))
+    (λ e. rw (sym e) (record { number = refl; flags = refl; client = refl; service = refl; barred = refl }, ((refl, refl), (refl, refl))))
     (decides-by (c .both3 .ensures)
     (decides-both (c .before .before .before .before .before .before .same-head .ensures)
     (decides-by (c .before .both2 .ensures)

@@ -1,6 +1,5 @@
 use Rattle.definitions.proofs.Equality.{decides-number, decides-both, decides-as, decides-by, same-windows}
-use mathlib.Core.Path.{ap}
-use Rattle.definitions.specs.declared.window.Window.{Window}
+use mathlib.Core.Path.{refl, sym}
 use borrow.Author.Needs.{needs}
 use Rattle.record.proofs.compare.same_window.Statement.{statement}
 use Rattle.record.proofs.compare.same_window.Tie as tie
@@ -9,7 +8,7 @@ returns : tie.Need-returns
 returns c =
     let x = c .before .before .before .before .before .args .a in
     let y = c .before .before .before .before .before .args .b in
-    decides-as (λ h. same-windows x y (h .0) (h .1)) (λ e. (ap (λ (w : Window). w .start) e, ap (λ (w : Window). w .end) e))
+    decides-as (λ h. same-windows x y (h .0) (h .1)) (λ e. rw (sym e) (refl, refl))
     (decides-by (c .both .ensures) (decides-both (decides-number (x .start) (y .start)) (decides-number (x .end) (y .end))))
 
 pub same-window-spec : {M : Type 1} → statement M

@@ -1,7 +1,6 @@
 use mathlib.Core.Path.{_≡_, refl, sym}
 use mathlib.Core.Bool.{true}
-use mathlib.Core.List.{[], _∷_}
-use Rattle.definitions.specs.TicketRecords.{knownMap}
+use Rattle.definitions.specs.TicketRecords.{knownMap, knownMaps}
 use Rattle.definitions.proofs.Bools.{in-arm, past-arm}
 use Rattle.definitions.proofs.TicketRecords.{unknown}
 use Rattle.record.proofs.reader.known_map.Statement.{statement}
@@ -10,12 +9,12 @@ use Rattle.record.proofs.reader.known_map.Tie as tie
 returns : tie.Need-returns
 unfolding knownMap
 returns c =
-    in-arm (λ m. true ≡ knownMap m) (c .before .args .map) (0x0037 ∷ 0x007F ∷ 0x01FF ∷ 0x0237 ∷ 0x027F ∷ 0x03FF ∷ 0x047F ∷ 0x067F ∷ []) (c .match .keys1)
+    in-arm (λ m. true ≡ knownMap m) (c .before .args .map) knownMaps (c .match .keys1)
     (refl, (refl, (refl, (refl, (refl, (refl, (refl, (refl, tt))))))))
 
 returns-2 : tie.Need-returns-2
 returns-2 c =
-    sym (unknown (c .before .args .map) (past-arm (c .before .args .map) (0x0037 ∷ 0x007F ∷ 0x01FF ∷ 0x0237 ∷ 0x027F ∷ 0x03FF ∷ 0x047F ∷ 0x067F ∷ []) (c .match .rest .1)))
+    sym (unknown (c .before .args .map) (past-arm (c .before .args .map) knownMaps (c .match .rest .1)))
 
 pub known-map-spec : {M : Type 1} → statement M
 known-map-spec =

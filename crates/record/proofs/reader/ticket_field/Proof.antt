@@ -1,4 +1,4 @@
-use mathlib.Core.Path.{refl}
+use mathlib.Core.Path.{refl, sym}
 use Rattle.definitions.specs.TicketRecords.{ticketLayout}
 use Rattle.record.proofs.Cursor.{small-at}
 use borrow.Author.Needs.{needs}
@@ -7,14 +7,13 @@ use Rattle.record.proofs.reader.ticket_field.Tie as tie
 
 take-field-requires : tie.Need-take-field-requires
 take-field-requires c κs =
-    let a = c .before .before .args in
-    let s = small-at ticketLayout refl (a .bit) in
-    (search needs, s .0, s .1, search needs)
+    let s = small-at ticketLayout refl (c .before .before .args .bit) in
+    rw (c .ticket-row .ensures) (search needs, s .0, s .1, search needs)
 
 returns : tie.Need-returns
-returns c = c .take-field .ensures ticketLayout refl (c .before .before .before .pre .1)
+returns c =
+    let p = c .before .before .before .pre in
+    c .take-field .ensures ticketLayout (p .0) (sym (c .before .ticket-row .ensures)) (p .1)
 
 pub ticket-field-spec : {M : Type 1} → statement M
-ticket-field-spec =
-    tie.close
-    (tie.spec (λ c. search needs) (λ c. search needs) take-field-requires returns)
+ticket-field-spec = tie.close (tie.spec (λ c κs. search needs) take-field-requires returns)

@@ -1,11 +1,12 @@
+use Rattle.definitions.specs.Decisions.{hopChecks}
+use Rattle.definitions.proofs.Checks.{unless-then}
 use borrow.Author.Needs.{needs}
 use Rattle.rules.proofs.check.check_hop.Statement.{statement}
 use Rattle.rules.proofs.check.check_hop.Tie as tie
-use Rattle.rules.proofs.Stages.{hop-then}
 
 returns : tie.Need-returns
-returns c =
-    simp (c .unless2 .ensures, c .before .unless .ensures) (hop-then (c .before .before .before .args .permitted) (c .before .before .before .args .evidence) (c .before .before .before .args .rest))
+unfolding hopChecks
+returns c = simp (unless-then, c .unless2 .ensures, c .before .unless .ensures)
 
 pub check-hop-spec : {M : Type 1} → statement M
 check-hop-spec =

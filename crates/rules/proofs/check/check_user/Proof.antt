@@ -1,11 +1,12 @@
+use Rattle.definitions.specs.Decisions.{userChecks}
+use Rattle.definitions.proofs.Checks.{unless-then}
 use borrow.Author.Needs.{needs}
 use Rattle.rules.proofs.check.check_user.Statement.{statement}
 use Rattle.rules.proofs.check.check_user.Tie as tie
-use Rattle.rules.proofs.Stages.{user-then}
 
 returns : tie.Need-returns
-returns c =
-    simp (c .unless2 .ensures, c .before .unless .ensures, c .before .before .is-enabled .ensures) (user-then (c .before .before .before .args .user) (c .before .before .before .args .rest))
+unfolding userChecks
+returns c = simp (unless-then, c .unless2 .ensures, c .before .unless .ensures, c .before .before .is-enabled .ensures)
 
 pub check-user-spec : {M : Type 1} → statement M
 check-user-spec =

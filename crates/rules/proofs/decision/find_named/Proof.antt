@@ -6,8 +6,8 @@ use Rattle.definitions.specs.Requests.{partOf}
 use Rattle.definitions.proofs.Fields.{bytes-take}
 use Rattle.definitions.proofs.Requests.{bytes-drop}
 use Rattle.definitions.specs.declared.account.Name.{Name}
-use Rattle.rules.specs.Traces.{bytesOf}
-use Rattle.rules.proofs.Traces.{find-packed}
+use Rattle.rules.specs.NameSearch.{bytesOf}
+use Rattle.rules.proofs.NameSearch.{find-packed}
 use lib.ListN.{drop}
 use borrow.Author.Needs.{needs}
 use Rattle.rules.proofs.decision.find_named.Statement.{statement}

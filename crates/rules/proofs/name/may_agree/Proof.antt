@@ -1,14 +1,11 @@
-use lib.Bits.{bitAnd}
-use borrow.Author.Tests.{eqb-false}
-use Rattle.rules.proofs.Traces.{same-not}
+use borrow.Author.Needs.{needs}
 use Rattle.rules.proofs.name.may_agree.Statement.{statement}
 use Rattle.rules.proofs.name.may_agree.Tie as tie
 
 returns : tie.Need-returns
-returns c =
-    let a = c .before .before .args in
-    λ f h.
-    same-not f (a .word) (a .p .word) (a .p .count) (a .p .mask) (c .before .before .pre) (eqb-false (bitAnd (a .word) (a .p .mask)) (bitAnd (a .p .word) (a .p .mask)) h)
+returns c = rw (c .row-word .ensures, c .before .lows-from .ensures)
 
 pub may-agree-spec : {M : Type 1} → statement M
-may-agree-spec = tie.close (tie.spec returns)
+may-agree-spec =
+    tie.close
+    (tie.spec (λ c. search needs) (λ c κs. search needs) (λ c κs. search needs) returns)

@@ -3,8 +3,8 @@ use Prim.Native.Nat.{ℕ}
 use lib.Dec.{ltb}
 use denote.Ref.{now}
 use Rattle.definitions.specs.Limits.{accountLimit}
-use Rattle.rules.specs.Traces.{bytesOf}
-use Rattle.rules.proofs.Traces.{first-taken}
+use Rattle.rules.specs.NameSearch.{bytesOf}
+use Rattle.rules.proofs.NameSearch.{first-taken}
 use borrow.Author.Needs.{needs}
 use Rattle.rules.proofs.name.name_taken.Statement.{statement}
 use Rattle.rules.proofs.name.name_taken.Tie as tie
