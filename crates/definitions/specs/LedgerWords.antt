@@ -22,6 +22,23 @@ placeStart place = placesStart + placeSize * place
 abbrev pub placeWord : List ℕ → ℕ → ℕ → ℕ
 placeWord words place k = getD words (placeStart place + k) 0
 
+-- what stands at a place: the number in its lane, and its four words
+pub record Place : Type 0 where
+  pub number : ℕ
+  pub row : List ℕ
+
+-- that of the words
+abbrev pub placeAt : List ℕ → ℕ → Place
+placeAt words place =
+    record {
+      number = laneAt numberBits words numbersStart place;
+      row = placeWord words place 0 ∷ placeWord words place windowWord ∷ placeWord words place backWord ∷ placeWord words place trailWord ∷ [];
+    }
+
+-- the words with a place put
+abbrev pub putPlace : List ℕ → ℕ → Place → List ℕ
+putPlace words place content = putRow (putLane numberBits words numbersStart place (content .number)) (placeStart place) (content .row)
+
 -- the origin of a tag: 0, 1, 2, and any other is that of a delegated ticket
 unfoldable pub originIn : ℕ → ℕ → ℕ → Origin
 originIn tag tgt evidence =
@@ -48,11 +65,14 @@ ticketIn number first second third fourth =
       barred = eqb (first / two60 % two4) 1;
     }
 
+-- the ticket of what stands at a place
+abbrev pub ticketOn : Place → Ticket
+ticketOn place =
+    ticketIn (place .number) (getD (place .row) 0 0) (getD (place .row) windowWord 0) (getD (place .row) backWord 0) (getD (place .row) trailWord 0)
+
 -- the ticket at a place
 unfoldable pub ticketAt : List ℕ → ℕ → Ticket
-ticketAt words place =
-    ticketIn (laneAt numberBits words numbersStart place) (placeWord words place 0) (placeWord words place windowWord)
-    (placeWord words place backWord) (placeWord words place trailWord)
+ticketAt words place = ticketOn (placeAt words place)
 
 -- R7.1: how many tickets the words hold
 abbrev pub countHeld : List ℕ → ℕ
@@ -92,7 +112,7 @@ ticketWords ticket =
 
 -- the words after a ticket is put at a place: the lane of its number, and the four words of the place
 abbrev pub putTicket : List ℕ → ℕ → Ticket → List ℕ
-putTicket words place ticket = putRow (putLane numberBits words numbersStart place (ticket .number)) (placeStart place) (ticketWords ticket)
+putTicket words place ticket = putPlace words place (record { number = ticket .number; row = ticketWords ticket })
 
 -- R7.3: the words after a ticket is put at the end of the ledger
 unfoldable pub storeTicket : List ℕ → Ticket → List ℕ
