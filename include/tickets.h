@@ -53,13 +53,13 @@ typedef struct {
 
 /* The layout of the words. Words that were stored under another number are not to be read by these functions: they would be taken for other
  * accounts and other tickets. A caller who keeps words keeps this number beside them. */
-#define TICKETS_LAYOUT 2
+#define TICKETS_LAYOUT 3
 
 /* How many words the accounts have: a header of 8, which are free, and 8 for each of 64 accounts, of which the last two are free. */
 #define TICKETS_ACCOUNTS 520
 
-/* How many words the ledger has: a header of 8, of which the first is the count of tickets, the second is kept for the next number and the
- * others are free; 128 with the tickets' numbers, four in a word; and 4 for each of 512 places. */
+/* How many words the ledger has: a header of 8, of which the first is the count of tickets, the second the next number (R5.10) and the others
+ * are free; 128 with the tickets' numbers, four in a word; and 4 for each of 512 places. */
 #define TICKETS_LEDGER 2184
 
 /* The memory of one service, 21632 bytes. Free words are 0 in a fresh service, and no call reads or writes them otherwise. */
@@ -76,7 +76,7 @@ enum {
     TICKETS_FLAG_SERVICE = 8
 };
 
-/* Makes a fresh service: no account is set, and no ticket is held (R7.2). All words are written, whatever they held. */
+/* Makes a fresh service: no account is set, no ticket is held, and the next number is 0 (R7.2). All words are written, whatever they held. */
 void tickets_fresh(uint64_t *accounts, uint64_t *ledger);
 
 /* Sets account `number`, 0 to 63, whole (R2.8). The name is the `name_len` bytes at `name`, with no zero byte at its end: 1 to 24 bytes, each
@@ -98,8 +98,8 @@ uint32_t tickets_edit(uint64_t *accounts, uint32_t number, const uint8_t *name, 
  * are; they are lent to be written all the same, as those of the ledger are.
  *
  * error 0: granted (R7.3). `value` is the length of the new ticket's record, 17 to 31; the record stands at the start of `output`, the
- * output's further bytes are as before, and the ticket is the ledger's last. `output_len` has to be TICKETS_LONGEST_RECORD at least,
- * whatever the ticket.
+ * output's further bytes are as before, the ticket is the ledger's last, and its number is one more than that of the grant before (R5.10).
+ * `output_len` has to be TICKETS_LONGEST_RECORD at least, whatever the ticket.
  *
  * Any other error: nothing was granted. The ledger and the output are as before, and the `value` 0 is not a length and not ticket 0. The
  * first check that fails answers, in this order (R6.2):
@@ -115,16 +115,25 @@ uint32_t tickets_edit(uint64_t *accounts, uint32_t number, const uint8_t *name, 
  *   13                  kind 4: neither route is open, or the option CNAME-IN-ADDL-TKT is missing
  *   61                  kind 4: the evidence's trail has eight accounts already
  *   11                  the ticket would end no later than `clock`
- *   29                  the ledger holds 512 tickets */
+ *   29                  the ledger holds 512 tickets, which tickets_clear can help; or ticket 65535 was given, and no number is left */
 tickets_answer tickets_request(uint64_t *accounts, uint64_t *ledger, const uint8_t *request, size_t request_len, uint32_t clock,
                                uint8_t *output, size_t output_len);
+
+/* Takes every ticket whose end is `clock` or earlier out of the ledger, and answers how many it took out, 0 to 512 (R7.6). It is never refused.
+ * The tickets that stay close up in their order, and the places behind them serve later grants. What went is not held any more: a request
+ * that presents it is answered 41, and so is its descent. Whatever a ticket that stays rests on stays too, since it ends no earlier. Numbers
+ * go on rising: none is given twice. The accounts' words are as before; they are lent to be written all the same.
+ *
+ * Of the ledger's words it writes the count, the places from the first that goes on up to the last one held, and the numbers of these;
+ * places set free have 0 in all their words. */
+uint32_t tickets_clear(uint64_t *accounts, uint64_t *ledger, uint32_t clock);
 
 /* The descent of ticket `number`: how many steps back it is to its initial ticket, from a delegated ticket to its evidence, from a direct
  * or self-issued one to its TGT (R7.4).
  *
  *   error 0: `value` is the steps, 0 for an initial ticket.
- *   41 (TICKETS_KRB_AP_ERR_MODIFIED): the ledger has no ticket of that number, or a back number on the way is not held or does not fall;
- *   neither happens for a ticket that tickets_request granted.
+ *   41 (TICKETS_KRB_AP_ERR_MODIFIED): the ledger has no ticket of that number, or has it no longer; or a back number on the way is not held or
+ *   does not fall, which does not happen for a ticket that tickets_request granted.
  *
  * It recurses at most once for each step. A ticket that calls made has at most nine steps (R9.2). Words that no calls make have at most 511,
  * which take some 25 KB of stack. */
@@ -151,6 +160,11 @@ static inline tickets_answer tickets_service_request(tickets_service *service, c
                                                      uint8_t *output, size_t output_len)
 {
     return tickets_request(service->accounts, service->ledger, request, request_len, clock, output, output_len);
+}
+
+static inline uint32_t tickets_service_clear(tickets_service *service, uint32_t clock)
+{
+    return tickets_clear(service->accounts, service->ledger, clock);
 }
 
 static inline tickets_answer tickets_service_descent(const tickets_service *service, uint32_t number)

@@ -1,5 +1,5 @@
-//! The plain book's notes (R8.2, R8.4) and the check of lawful descent over them (R9.1 to R9.8). The
-//! routes of R5.7 are stated once more here, apart from the decisions.
+//! The plain book's notes and its next number (R8.2, R8.4, R8.5), and the check of lawful descent over
+//! the notes (R9.1 to R9.8). The routes of R5.7 are stated once more here, apart from the decisions.
 
 use std::fmt::Debug;
 use std::rc::Rc;
@@ -30,10 +30,12 @@ pub struct Note {
     pub table: Rc<Table>,
 }
 
-/// The notes of a day, in the order of the grants.
+/// The notes of a day that stand, in the order of the grants.
 #[derive(Clone, Debug, Default, PartialEq, Eq)]
 pub struct Book {
     pub notes: Vec<Note>,
+    /// R5.10: the number of the next ticket, by the book's own count of the grants.
+    pub next: u64,
 }
 
 impl Book {
@@ -42,13 +44,22 @@ impl Book {
         Book::default()
     }
 
-    /// R8.4: notes a granted ticket with its request and the table that it was decided by.
+    /// R8.4: notes a granted ticket with its request and the table that it was decided by, and counts
+    /// it.
     pub fn note(&mut self, ticket: Ticket, request: &[u8], table: &Table) {
         let table = match self.notes.last() {
             Some(last) if *last.table == *table => Rc::clone(&last.table),
             _ => Rc::new(table.clone()),
         };
         self.notes.push(Note { ticket, request: request.to_vec(), table });
+        self.next += 1;
+    }
+
+    /// R8.5: strikes out the notes of tickets whose end the clock has reached, and answers how many.
+    pub fn clear(&mut self, clock: u32) -> u32 {
+        let before = self.notes.len();
+        self.notes.retain(|note| clock < note.ticket.end);
+        (before - self.notes.len()) as u32
     }
 
     /// Makes a request of the service, and notes it if it is granted.
@@ -70,25 +81,26 @@ impl Book {
 /// A rule that a ticket breaks, in words.
 type Broken = &'static str;
 
-/// Checks R9.1 to R9.8 for every ticket; the answer names the first ticket that breaks one of them,
-/// and what is broken.
-pub fn lawful(notes: &[Note]) -> Result<(), String> {
+/// Checks R9.1 to R9.8 for every ticket from this place of the notes on; the answer names the first
+/// ticket that breaks one of them, and what is broken.
+pub fn lawful(notes: &[Note], from: usize) -> Result<(), String> {
     let ledger = Ledger::of(notes);
-    for note in notes {
+    for note in &notes[from..] {
         check(&ledger, note)
             .map_err(|broken| format!("ticket {}: {broken}", note.ticket.number))?;
     }
     Ok(())
 }
 
-/// R7.4, R9.2: checks for every ticket that this descent call answers how many steps back its initial
-/// ticket is.
+/// R7.4, R9.2: checks for every ticket from this place of the notes on that this descent call answers
+/// how many steps back its initial ticket is.
 pub fn descents<E: Debug>(
     notes: &[Note],
+    from: usize,
     descent: impl Fn(u32) -> Result<u32, E>,
 ) -> Result<(), String> {
     let ledger = Ledger::of(notes);
-    for number in notes.iter().map(|note| note.ticket.number) {
+    for number in notes[from..].iter().map(|note| note.ticket.number) {
         let steps = ledger.steps(number).map_err(|broken| format!("ticket {number}: {broken}"))?;
         let answer = descent(number.into());
         if !matches!(answer, Ok(counted) if counted == steps) {
@@ -333,9 +345,9 @@ mod tests {
 
     /// What is said of the history after this damage.
     fn damaged(damage: impl Fn(&mut Vec<Note>)) -> String {
-        let Book { mut notes } = history().book;
+        let Book { mut notes, .. } = history().book;
         damage(&mut notes);
-        lawful(&notes).unwrap_err()
+        lawful(&notes, 0).unwrap_err()
     }
 
     /// What is said of the history after this damage to one ticket.
@@ -358,12 +370,12 @@ mod tests {
     #[test]
     fn r9_2_chains_of_eight_hops_are_lawful() {
         let Day { service, book } = history();
-        assert_eq!(lawful(&book.notes), Ok(()));
-        assert_eq!(descents(&book.notes, |number| service.descent(number)), Ok(()));
+        assert_eq!(lawful(&book.notes, 0), Ok(()));
+        assert_eq!(descents(&book.notes, 0, |number| service.descent(number)), Ok(()));
         assert_eq!(service.descent(HOP_8 as u32), Ok(9));
         assert_eq!(book.notes[HOP_8].ticket.trail, [1, 2, 3, 4, 5, 6, 7, 8]);
         assert_eq!(book.notes.len(), RESOURCE_HOP + 1);
-        assert!(lawful(&[]).is_ok());
+        assert!(lawful(&[], 0).is_ok());
     }
 
     #[test]
@@ -378,6 +390,46 @@ mod tests {
         let mut day = history();
         assert_eq!(day.ask(&kind_1("ghost"), 1000), Err(6));
         assert_eq!(day.book.notes.len(), RESOURCE_HOP + 1);
+    }
+
+    #[test]
+    fn r8_4_the_book_counts_the_grants() {
+        let mut day = history();
+        let granted = RESOURCE_HOP as u64 + 1;
+        assert_eq!(day.ask(&kind_1("ghost"), 1000), Err(6));
+        assert_eq!((day.book.next, day.service.next), (granted, granted));
+        assert_eq!(day.clear(u32::MAX), granted as u32);
+        assert_eq!((day.book.next, day.service.next), (granted, granted));
+    }
+
+    #[test]
+    fn r8_5_a_clearing_strikes_out_the_notes_that_have_ended() {
+        // The S4U2self ticket and its eight hops end at 20000, all others at 37000.
+        let mut day = history();
+        assert_eq!((day.book.clear(19999), day.book.notes.len()), (0, RESOURCE_HOP + 1));
+        assert_eq!((day.clear(20000), day.book.notes.len()), (9, RESOURCE_HOP + 1 - 9));
+        let noted = day.book.notes.iter().map(|note| note.ticket);
+        assert!(noted.eq(day.service.ledger.iter().copied()));
+        assert_eq!(lawful(&day.book.notes, 0), Ok(()));
+        assert_eq!(descents(&day.book.notes, 0, |number| day.service.descent(number)), Ok(()));
+        assert_eq!(day.service.descent(HOP_8 as u32), Err(Error::Modified));
+        assert_eq!((day.clear(37000), &day.book.notes), (12, &vec![]));
+    }
+
+    #[test]
+    fn r9_2_what_a_standing_ticket_rests_on_has_to_stand() {
+        let struck = damaged(|notes| notes.retain(|note| note.ticket.number != S4U2SELF as u16));
+        assert_eq!(struck, "ticket 11: a step leads to a ticket that is not held");
+        let struck = damaged(|notes| notes.retain(|note| note.ticket.number != 7));
+        assert_eq!(struck, "ticket 18: the TGT is not held");
+    }
+
+    #[test]
+    fn from_a_place_on_earlier_tickets_are_not_asked() {
+        let mut notes = history().book.notes;
+        notes[S4U2SELF].ticket.hops = 1;
+        assert_eq!(lawful(&notes, DIRECT), Ok(()));
+        assert!(lawful(&notes, S4U2SELF).is_err());
     }
 
     #[test]
@@ -529,9 +581,9 @@ mod tests {
     fn r7_4_the_descent_call() {
         let Day { service, book } = history();
         let one_more = |number| service.descent(number).map(|steps| steps + 1);
-        let said = descents(&book.notes, one_more).unwrap_err();
+        let said = descents(&book.notes, 0, one_more).unwrap_err();
         assert_eq!(said, "ticket 0: descent gives Ok(1), not 0 steps");
-        let refused = descents(&book.notes, |_| Err(Error::Modified)).unwrap_err();
+        let refused = descents(&book.notes, 0, |_| Err(Error::Modified)).unwrap_err();
         assert_eq!(refused, "ticket 0: descent gives Err(Modified), not 0 steps");
     }
 }

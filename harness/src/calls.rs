@@ -46,6 +46,11 @@ pub fn request(service: &mut Service, request: &[u8], clock: u32, output: &mut [
     Answer::of_length(service.request(request, clock, output))
 }
 
+/// `tickets_clear`.
+pub fn clear(service: &mut Service, clock: u32) -> u32 {
+    service.clear(clock)
+}
+
 /// `tickets_descent`.
 pub fn descent(service: &Service, number: u32) -> Answer {
     Answer::of(service.descent(number))

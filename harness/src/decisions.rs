@@ -1,7 +1,7 @@
 //! The four decisions (R5.1 to R5.10) and the checks of a request in their order (R6.1 to R6.7).
 
 use crate::accounts::Table;
-use crate::limits::{LAST_SECOND, LONGEST_RECORD, TICKET_LIMIT, TRAIL_LIMIT};
+use crate::limits::{LAST_NUMBER, LAST_SECOND, LONGEST_RECORD, TICKET_LIMIT, TRAIL_LIMIT};
 use crate::record::{Error, Kind, Origin, Principal, Request, Ticket, NO_TRAIL};
 
 /// R3.4: the flags of a ticket. FORWARDABLE is an option of a request too.
@@ -24,14 +24,21 @@ pub struct Moment<'a> {
     pub clock: u32,
     /// How many tickets the ledger holds.
     pub count: usize,
+    /// The next number.
+    pub next: u64,
     /// The output's length.
     pub room: usize,
 }
 
 impl Moment<'_> {
-    /// R5.10: the number of a new ticket; where the count does not fit, 29 refuses it.
+    /// R5.10: the number of a new ticket; where the next number does not fit, 29 refuses it.
     fn number(&self) -> u16 {
-        self.count as u16
+        self.next as u16
+    }
+
+    /// R6.7: whether a place and a number are left.
+    fn has_room(&self) -> bool {
+        self.count < TICKET_LIMIT && self.next <= LAST_NUMBER.into()
     }
 }
 
@@ -286,7 +293,7 @@ pub fn decide(request: &Request, moment: &Moment) -> Result<Ticket, Error> {
         }
     }?;
     ensure(ticket.end > moment.clock, Error::NeverValid)?;
-    ensure(moment.count < TICKET_LIMIT, Error::SvcUnavailable)?;
+    ensure(moment.has_room(), Error::SvcUnavailable)?;
     Ok(ticket)
 }
 

@@ -20,7 +20,7 @@ pub enum Error {
     ClientRevoked = 18,
     /// KDC_ERR_SERVER_NOMATCH: the evidence is not for Service 1 (R6.4).
     ServerNoMatch = 26,
-    /// KDC_ERR_SVC_UNAVAILABLE: no place is left in the ledger (R6.7).
+    /// KDC_ERR_SVC_UNAVAILABLE: no place is left in the ledger, or no number (R6.7).
     SvcUnavailable = 29,
     /// KRB_AP_ERR_TKT_EXPIRED: a presented ticket has ended (R6.3, R6.4).
     TktExpired = 32,

@@ -136,6 +136,8 @@ impl Day {
             Ok(length) => {
                 let (ticket, earlier) = self.service.ledger.split_last().unwrap();
                 assert_eq!((&self.service.table, earlier), (&before.table, &before.ledger[..]));
+                assert_eq!(u64::from(ticket.number), before.next);
+                assert_eq!(self.service.next, before.next + 1);
                 assert_eq!(output[..length], record(ticket));
                 assert!(output[length..].iter().all(|&byte| byte == 0xEE));
                 Ok(*ticket)
@@ -146,6 +148,16 @@ impl Day {
                 Err(error.number())
             }
         }
+    }
+
+    /// A clearing, of the book too: how many tickets it took out of the ledger. Looks whether it left
+    /// the accounts and the next number (R7.6).
+    pub fn clear(&mut self, clock: u32) -> u32 {
+        let (table, next) = (self.service.table.clone(), self.service.next);
+        let taken = self.service.clear(clock);
+        assert_eq!((&self.service.table, self.service.next), (&table, next));
+        self.book.clear(clock);
+        taken
     }
 
     /// A request: the ticket, or the error number.

@@ -13,11 +13,11 @@ use crate::accounts::Edit;
 use crate::library::Service;
 use crate::limits::{ACCOUNT_LIMIT, HEADER_SIZE, NUMBERS_SIZE, PLACE_SIZE, ROW_SIZE, TICKET_LIMIT};
 use crate::record::read_request;
-use crate::words::{place_at, row_at};
+use crate::words::{place_at, row_at, COUNT_AT, NEXT_AT};
 use std::fmt;
 
 pub use generator::generate;
-pub use replay::run;
+pub use replay::{run, run_one};
 pub use tally::Tally;
 
 /// One call with all its arguments.
@@ -27,6 +27,8 @@ pub enum Call {
     Edit { number: u32, name: Vec<u8>, flags: u32, send: u64, receive: u64, lifetime: u32 },
     /// A request, the clock reading, and the output's length.
     Request { request: Vec<u8>, clock: u32, output: usize },
+    /// A clearing at a clock reading.
+    Clear { clock: u32 },
 }
 
 /// A list of calls.
@@ -78,6 +80,7 @@ impl fmt::Display for Call {
                     Err(_) => write!(f, "\n       unreadable"),
                 }
             }
+            Call::Clear { clock } => write!(f, "clear at {clock}"),
         }
     }
 }
@@ -96,7 +99,8 @@ impl fmt::Display for History {
 
 /// Prints the headers, rows, numbers and places whose words are not all 0.
 fn print_words(f: &mut fmt::Formatter, words: &Service) -> fmt::Result {
-    writeln!(f, "  from words, 0 but for: count {:#x}", words.ledger[0])?;
+    let (count, next) = (words.ledger[COUNT_AT], words.ledger[NEXT_AT]);
+    writeln!(f, "  from words, 0 but for: count {count:#x}, next number {next:#x}")?;
     print_some(f, "header", 0, &words.accounts[..HEADER_SIZE])?;
     print_some(f, "header", 1, &words.ledger[..HEADER_SIZE])?;
     for number in 0..ACCOUNT_LIMIT {

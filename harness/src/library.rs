@@ -29,6 +29,8 @@ extern "C" {
         output_len: usize,
     ) -> Answer;
 
+    fn tickets_clear(accounts: *mut u64, ledger: *mut u64, clock: u32) -> u32;
+
     fn tickets_descent(ledger: *const u64, number: u32) -> Answer;
 
     fn tickets_day_total(ledger: *const u64) -> u64;
@@ -81,6 +83,12 @@ pub fn request(
     }
 }
 
+/// `tickets_clear`.
+pub fn clear(accounts: &mut AccountWords, ledger: &mut LedgerWords, clock: u32) -> u32 {
+    // SAFETY: the arrays have as many words as the call takes, and are borrowed mutably.
+    unsafe { tickets_clear(accounts.as_mut_ptr(), ledger.as_mut_ptr(), clock) }
+}
+
 /// `tickets_descent`.
 pub fn descent(ledger: &LedgerWords, number: u32) -> Answer {
     // SAFETY: the ledger has as many words as the call reads.
@@ -129,6 +137,11 @@ impl Service {
     /// `tickets_service_request`.
     pub fn request(&mut self, given: &[u8], clock: u32, output: &mut [u8]) -> Answer {
         request(&mut self.accounts, &mut self.ledger, given, clock, output)
+    }
+
+    /// `tickets_service_clear`.
+    pub fn clear(&mut self, clock: u32) -> u32 {
+        clear(&mut self.accounts, &mut self.ledger, clock)
     }
 
     /// `tickets_service_descent`.

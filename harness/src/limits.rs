@@ -16,6 +16,9 @@ pub const LONGEST_RECORD: usize = 31;
 /// R7.1: how many tickets the ledger has places for.
 pub const TICKET_LIMIT: usize = 512;
 
+/// R5.10: the last number that a ticket is given, 65535.
+pub const LAST_NUMBER: u16 = u16::MAX;
+
 /// R1.2: the last second that a time can be, 4294967295.
 pub const LAST_SECOND: u32 = u32::MAX;
 

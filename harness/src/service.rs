@@ -1,15 +1,18 @@
-//! The service as a whole, its ledger, the descent call and the day total: R6.1, R7.1 to R7.5.
+//! The service as a whole, its ledger, the descent call, the day total and the clearing: R6.1, R7.1 to
+//! R7.6.
 
 use crate::accounts::{Edit, Table};
 use crate::decisions::{decide, Moment};
 use crate::limits::TICKET_LIMIT;
 use crate::record::{read_request, write_ticket, Error, Kind, Request, Ticket};
 
-/// Accounts and tickets. Only as many tickets count as there are places (R7.1).
+/// Accounts, tickets and the next number. Only as many tickets count as there are places (R7.1).
 #[derive(Clone, Debug, PartialEq, Eq)]
 pub struct Service {
     pub table: Table,
     pub ledger: Vec<Ticket>,
+    /// R5.10: the number that the next grant gives, if it is one that a ticket can have.
+    pub next: u64,
 }
 
 impl Default for Service {
@@ -19,9 +22,10 @@ impl Default for Service {
 }
 
 impl Service {
-    /// R7.2: the service that a day begins with: no account is set, and no ticket held.
+    /// R7.2: the service that a day begins with: no account is set, no ticket held, and no number
+    /// given.
     pub fn fresh() -> Service {
-        Service { table: Table::empty(), ledger: Vec::with_capacity(TICKET_LIMIT) }
+        Service { table: Table::empty(), ledger: Vec::with_capacity(TICKET_LIMIT), next: 0 }
     }
 
     /// R2.8: an edit. A refused one changes nothing.
@@ -30,7 +34,7 @@ impl Service {
     }
 
     /// R7.3: a request. A grant puts the ticket last in the ledger and its record first in the output,
-    /// and answers the record's length. A refusal changes neither (R6.1).
+    /// uses up the next number, and answers the record's length. A refusal changes nothing (R6.1).
     pub fn request(
         &mut self,
         request: &[u8],
@@ -41,7 +45,17 @@ impl Service {
         let ticket = decide(&request, &self.moment(&request, clock, output.len()))?;
         let length = write_ticket(&ticket, output)?;
         self.ledger.push(ticket);
+        self.next += 1;
         Ok(length)
+    }
+
+    /// R7.6: a clearing. Out goes every held ticket whose end the clock has reached; the others stay
+    /// in their order. It answers how many it took out.
+    pub fn clear(&mut self, clock: u32) -> u32 {
+        self.ledger.truncate(TICKET_LIMIT);
+        let held = self.ledger.len();
+        self.ledger.retain(|ticket| ticket.end > clock);
+        (held - self.ledger.len()) as u32
     }
 
     /// What the decision of a request looks at.
@@ -55,8 +69,8 @@ impl Service {
                 (self.first_held(tgt.number), self.first_held(evidence.number))
             }
         };
-        let count = self.held().len();
-        Moment { table: &self.table, first_tgt, first_evidence, clock, count, room }
+        let (count, next) = (self.held().len(), self.next);
+        Moment { table: &self.table, first_tgt, first_evidence, clock, count, next, room }
     }
 
     /// R7.1: the tickets that the ledger holds.
@@ -100,7 +114,7 @@ fn seconds(ticket: &Ticket) -> u64 {
 mod tests {
     use super::*;
     use crate::fixtures::{kind_1, kind_2, kind_3, kind_4, record, Day, LIFETIME};
-    use crate::limits::{LAST_SECOND, LONGEST_RECORD, TRAIL_LIMIT};
+    use crate::limits::{LAST_NUMBER, LAST_SECOND, LONGEST_RECORD, TRAIL_LIMIT};
     use crate::record::{read_ticket, Origin, NO_TRAIL};
     use crate::samples::{counted, w1, w3_with, TICKET_0, TICKET_1, TICKET_2};
 
@@ -180,7 +194,7 @@ mod tests {
         assert_eq!(day.ask(&kind_1("web"), 1000), Err(29));
         assert_eq!(day.ask(&kind_1("ghost"), 1000), Err(6));
         assert_eq!(day.ask(&kind_1("web").till(1000), 1000), Err(11));
-        let last = day.service.ledger[TICKET_LIMIT - 1];
+        let last = *day.service.ledger.last().unwrap();
         assert_eq!(day.ask(&kind_3(&last, "tech"), 999), Err(33));
         assert_eq!(day.ask(&kind_3(&last, "tech"), 1000), Err(29));
         assert_eq!(day.service.day_total(), 512 * u64::from(LIFETIME));
@@ -206,7 +220,7 @@ mod tests {
         day.service.ledger = vec![first, second];
         assert_eq!(day.ask(&kind_2(&second, "store"), 1000), Err(41));
         let granted = day.grant(&kind_2(&first, "store"), 1000);
-        assert_eq!((granted.number, granted.origin), (2, Origin::Direct { tgt: 5 }));
+        assert_eq!((granted.number, granted.origin), (0, Origin::Direct { tgt: 5 }));
     }
 
     #[test]
@@ -289,5 +303,142 @@ mod tests {
             Ticket { start: 0, end: LAST_SECOND, ..plain },
         ];
         assert_eq!(service.day_total(), 2 * u64::from(LAST_SECOND));
+    }
+
+    /// The numbers of the tickets held.
+    fn numbers(day: &Day) -> Vec<u16> {
+        day.service.held().iter().map(|ticket| ticket.number).collect()
+    }
+
+    #[test]
+    fn r7_6_a_full_ledger_is_cleared_and_numbers_go_on() {
+        let mut day = Day::morning();
+        for number in 0..TICKET_LIMIT as u16 {
+            let till = if number % 2 == 0 { 2000 } else { 3000 };
+            assert_eq!(day.grant(&kind_1("web").till(till), 1000).number, number);
+        }
+        assert_eq!(day.ask(&kind_1("web"), 1000), Err(29));
+        assert_eq!(day.clear(2000), 256);
+        assert!(numbers(&day).into_iter().eq((1..512).step_by(2)));
+        assert_eq!(day.grant(&kind_1("web"), 1000).number, 512);
+        assert_eq!(day.service.ledger.len(), 257);
+        assert_eq!(day.service.descent(512), Ok(0));
+        assert_eq!(day.service.day_total(), 256 * 2000 + u64::from(LIFETIME));
+    }
+
+    #[test]
+    fn r7_6_a_ticket_goes_at_its_end_and_stays_before_it() {
+        let mut day = Day::morning();
+        for till in [2001, 2000, 3000, 1999, 2000] {
+            day.grant(&kind_1("web").till(till), 1000);
+        }
+        assert_eq!((day.clear(1998), numbers(&day)), (0, vec![0, 1, 2, 3, 4]));
+        assert_eq!((day.clear(2000), numbers(&day)), (3, vec![0, 2]));
+        assert_eq!((day.clear(2000), numbers(&day)), (0, vec![0, 2]));
+        assert_eq!((day.clear(1000), numbers(&day)), (0, vec![0, 2]));
+        assert_eq!((day.clear(LAST_SECOND), numbers(&day)), (2, vec![]));
+        assert_eq!((day.clear(LAST_SECOND), day.service.next), (0, 5));
+    }
+
+    /// A ticket with this end.
+    fn ending(end: u32) -> Ticket {
+        Ticket { end, ..ticket(0, Origin::Initial) }
+    }
+
+    #[test]
+    fn r7_6_0_and_the_last_second() {
+        let mut service = Service::fresh();
+        service.ledger = [0, 1, LAST_SECOND - 1, LAST_SECOND].map(ending).to_vec();
+        let taken = [0, 0, LAST_SECOND - 1, LAST_SECOND].map(|clock| service.clear(clock));
+        assert_eq!(taken, [1, 0, 2, 1]);
+    }
+
+    #[test]
+    fn r11_5_the_morning_cleared() {
+        let mut day = after_w3();
+        let w3 = w3_with(&counted(TICKET_1));
+        assert_eq!([36999, 37000, 37000].map(|clock| day.clear(clock)), [0, 3, 0]);
+        assert_eq!((&day.service.ledger, day.service.day_total()), (&vec![], 0));
+        assert_eq!(day.service.descent(0), Err(Error::Modified));
+        assert_eq!(day.ask_bytes(&w2(), 1010), Err(41));
+        assert_eq!(day.ask_bytes(&w3, 1020), Err(41));
+        let third = b"\x00\x37\x00\x03\x00\x40\x00\x00\x01\x00\x00\x03\xe8\x00\x00\x90\x88";
+        assert_eq!(record(&day.ask_bytes(&w1(), 1000).unwrap()), third);
+    }
+
+    #[test]
+    fn r11_5_512_grants_cleared() {
+        let mut day = Day::morning();
+        (0..TICKET_LIMIT).for_each(|_| assert!(day.ask_bytes(&w1(), 1000).is_ok()));
+        assert_eq!(day.ask_bytes(&w1(), 1000), Err(29));
+        assert_eq!(day.clear(37000), 512);
+        assert_eq!(day.ask_bytes(&w1(), 1000).unwrap().number, 512);
+    }
+
+    #[test]
+    fn r7_6_tickets_that_end_together_go_together() {
+        let mut day = after_w3();
+        let later = day.grant(&kind_1("web").till(37001), 1021);
+        assert_eq!((day.clear(36999), day.service.ledger.len()), (0, 4));
+        assert_eq!((day.clear(37000), &day.service.ledger), (3, &vec![later]));
+        let none = Err(Error::Modified);
+        let descents = [0, 1, 2, 3].map(|number| day.service.descent(number));
+        assert_eq!(descents, [none, none, none, Ok(0)]);
+        assert_eq!(day.service.day_total(), 37001 - 1021);
+        assert_eq!(day.grant(&kind_1("web"), 5).number, 4);
+    }
+
+    #[test]
+    fn r7_6_what_was_taken_out_is_41_at_any_clock() {
+        let mut day = after_w3();
+        let [tgt, evidence, _] =
+            [TICKET_0, TICKET_1, TICKET_2].map(|record| read_ticket(record).unwrap());
+        let other = day.grant(&kind_1("web").till(37001), 1020);
+        assert_eq!(day.clear(37000), 3);
+        for clock in [0, 1000, 1020, 36999, 37000, LAST_SECOND] {
+            assert_eq!(day.ask(&kind_2(&tgt, "store"), clock), Err(41));
+            assert_eq!(day.ask(&kind_4(&tgt, &evidence, "store"), clock), Err(41));
+        }
+        assert_eq!(day.ask(&kind_4(&other, &evidence, "store"), 1020), Err(41));
+    }
+
+    #[test]
+    fn r5_10_65535_is_the_last_number() {
+        let mut day = Day::morning();
+        day.service.next = LAST_NUMBER.into();
+        let last = day.grant(&kind_1("web"), 1000);
+        assert_eq!((last.number, day.service.next), (LAST_NUMBER, 65536));
+        for _ in 0..2 {
+            assert_eq!(day.ask(&kind_1("web"), 1000), Err(29));
+            assert_eq!(day.ask(&kind_1("web").till(1000), 1000), Err(11));
+            assert_eq!(day.ask(&kind_1("ghost"), 1000), Err(6));
+            day.clear(LAST_SECOND);
+        }
+        assert_eq!(day.service.ledger, []);
+        for next in [65537, 1 << 32, 1 << 63, u64::MAX] {
+            day.service.next = next;
+            assert_eq!(day.ask(&kind_1("web"), 1000), Err(29));
+        }
+    }
+
+    #[test]
+    fn r5_10_a_number_that_is_held_is_given_all_the_same() {
+        let mut day = Day::morning();
+        day.service.ledger = vec![ticket(7, Origin::Initial)];
+        day.service.next = 7;
+        let again = day.grant(&kind_1("web").till(5000), 1500);
+        assert_eq!((again.number, day.service.next), (7, 8));
+        assert_eq!(day.ask(&kind_2(&again, "store"), 1500), Err(41));
+        assert_eq!(day.clear(2000), 1);
+        assert_eq!(day.grant(&kind_2(&again, "store"), 1500).number, 8);
+    }
+
+    #[test]
+    fn r7_6_tickets_past_the_512th_are_not_counted() {
+        let mut service = Service::fresh();
+        service.ledger = vec![ticket(0, Origin::Initial); TICKET_LIMIT + 3];
+        service.ledger[TICKET_LIMIT - 1].end = 3000;
+        assert_eq!((service.clear(1999), service.ledger.len()), (0, TICKET_LIMIT));
+        assert_eq!((service.clear(2000), service.ledger.len()), (511, 1));
     }
 }

@@ -4,7 +4,7 @@
 use crate::accounts::{Account, Edit, Name, Table};
 use crate::limits::{
     ACCOUNTS_SIZE, HEADER_SIZE, LEDGER_SIZE, NAME_LIMIT, NUMBERS_IN_WORD, NUMBERS_SIZE, PLACE_SIZE,
-    ROW_WORDS, ROW_SIZE, TICKET_LIMIT,
+    ROW_SIZE, ROW_WORDS, TICKET_LIMIT,
 };
 use crate::record::{Origin, Ticket};
 use crate::service::Service;
@@ -12,8 +12,13 @@ use crate::service::Service;
 /// The words of the accounts: a header, and those of the rows.
 pub type AccountWords = [u64; ACCOUNTS_SIZE];
 
-/// The words of the ledger: a header with the stored count, the numbers, and those of its places.
+/// The words of the ledger: a header with the stored count and the next number, the numbers, and those
+/// of its places.
 pub type LedgerWords = [u64; LEDGER_SIZE];
+
+/// The words of the ledger's header that are not free.
+pub const COUNT_AT: usize = 0;
+pub const NEXT_AT: usize = 1;
 
 /// The tags of a ticket's origin; every other one is that of a delegated ticket too.
 const INITIAL: u8 = 0;
@@ -26,7 +31,7 @@ const MARK: u8 = 1;
 
 /// The service that the words stand for.
 pub fn service(accounts: &AccountWords, ledger: &LedgerWords) -> Service {
-    Service { table: table(accounts), ledger: tickets(ledger) }
+    Service { table: table(accounts), ledger: tickets(ledger), next: ledger[NEXT_AT] }
 }
 
 /// The table that the words stand for.
@@ -36,13 +41,13 @@ pub fn table(accounts: &AccountWords) -> Table {
 
 /// The tickets that the words stand for.
 pub fn tickets(ledger: &LedgerWords) -> Vec<Ticket> {
-    let ticket_at = |place| ticket(number(ledger, place), &ledger[place_at(place)..][..PLACE_SIZE]);
+    let ticket_at = |place| ticket(number(ledger, place), &place_words(ledger, place));
     (0..count_held(ledger)).map(ticket_at).collect()
 }
 
 /// R7.1: how many tickets are held: as many as the stored count says, and no more than the limit.
 pub fn count_held(ledger: &LedgerWords) -> usize {
-    ledger[0].min(TICKET_LIMIT as u64) as usize
+    ledger[COUNT_AT].min(TICKET_LIMIT as u64) as usize
 }
 
 /// Where the words of an account start.
@@ -74,6 +79,17 @@ pub fn put_number(ledger: &mut LedgerWords, place: usize, number: u16) {
 /// Where the words of a place start.
 pub fn place_at(place: usize) -> usize {
     HEADER_SIZE + NUMBERS_SIZE + PLACE_SIZE * place
+}
+
+/// The words of a place.
+pub fn place_words(ledger: &LedgerWords, place: usize) -> [u64; PLACE_SIZE] {
+    std::array::from_fn(|word| ledger[place_at(place) + word])
+}
+
+/// Sets the number and the words of a place, and no others.
+fn put_place(ledger: &mut LedgerWords, place: usize, number: u16, words: &[u64; PLACE_SIZE]) {
+    put_number(ledger, place, number);
+    ledger[place_at(place)..][..PLACE_SIZE].copy_from_slice(words);
 }
 
 /// The account of a row's words; it is set where the stored length is one that a name has.
@@ -162,12 +178,27 @@ pub fn store_account(accounts: &mut AccountWords, number: usize, account: &Accou
 }
 
 /// Stores a granted ticket: the number and the words of the first place that is not held change, the
-/// count becomes that place's index and one, and nothing else changes.
+/// count becomes that place's index and one, the next number goes up by one, and nothing else changes.
 pub fn store_ticket(ledger: &mut LedgerWords, ticket: &Ticket) {
     let place = count_held(ledger);
-    put_number(ledger, place, ticket.number);
-    ledger[place_at(place)..][..PLACE_SIZE].copy_from_slice(&ticket_words(ticket));
-    ledger[0] = place as u64 + 1;
+    put_place(ledger, place, ticket.number, &ticket_words(ticket));
+    ledger[COUNT_AT] = place as u64 + 1;
+    ledger[NEXT_AT] += 1;
+}
+
+/// R7.6: stores what a clearing leaves. The first places have the numbers and all the words of those
+/// whose tickets stay, the others that were held have 0, the count becomes how many stay, and nothing
+/// else changes.
+pub fn store_clearing(ledger: &mut LedgerWords, clock: u32) {
+    let held = count_held(ledger);
+    let places = (0..held).map(|place| (number(ledger, place), place_words(ledger, place)));
+    let stay: Vec<_> =
+        places.filter(|(number, words)| ticket(*number, words).end > clock).collect();
+    for place in 0..held {
+        let (number, words) = stay.get(place).copied().unwrap_or_default();
+        put_place(ledger, place, number, &words);
+    }
+    ledger[COUNT_AT] = stay.len() as u64;
 }
 
 #[cfg(test)]
@@ -222,8 +253,76 @@ mod tests {
     fn r7_1_no_more_than_512_tickets_are_held() {
         let mut ledger = [0; LEDGER_SIZE];
         for (count, read) in [(0, 0), (511, 511), (512, 512), (513, 512), (u64::MAX, 512)] {
-            ledger[0] = count;
+            ledger[COUNT_AT] = count;
             assert_eq!(tickets(&ledger).len(), read);
+        }
+    }
+
+    #[test]
+    fn r5_10_a_grant_raises_the_next_number_and_its_ticket_may_have_any_place() {
+        let mut ledger = [0; LEDGER_SIZE];
+        ledger[NEXT_AT] = 700;
+        let ticket = Ticket { number: 700, ..read_ticket(TICKET_0).unwrap() };
+        store_ticket(&mut ledger, &ticket);
+        assert_eq!((ledger[..3].to_vec(), number(&ledger, 0)), (vec![1, 701, 0], 700));
+        assert_eq!(service(&[0; ACCOUNTS_SIZE], &ledger).next, 701);
+        ledger[NEXT_AT] = u64::MAX;
+        assert_eq!(service(&[0; ACCOUNTS_SIZE], &ledger).next, u64::MAX);
+    }
+
+    /// Words no two of which are alike, with this count and these ends in the first places; the ends of
+    /// all others are later.
+    fn odd_words(count: u64, ends: &[u32]) -> LedgerWords {
+        let mut ledger = std::array::from_fn(|word| !(word as u64 * 0x0001_0003_0007_0001));
+        ledger[COUNT_AT] = count;
+        for (place, &end) in ends.iter().enumerate() {
+            ledger[place_at(place) + 1] = u64::from(end) << 32 | place as u64;
+        }
+        ledger
+    }
+
+    #[test]
+    fn r7_6_what_stays_closes_up_with_all_its_words() {
+        let before = odd_words(6, &[50, 51, 50, 0, 52, 7]);
+        let mut after = before;
+        store_clearing(&mut after, 50);
+        assert_eq!(after[..HEADER_SIZE], [&[2][..], &before[1..HEADER_SIZE]].concat());
+        for (place, from) in [(0, 1), (1, 4), (6, 6), (7, 7), (511, 511)] {
+            assert_eq!(number(&after, place), number(&before, from));
+            assert_eq!(place_words(&after, place), place_words(&before, from));
+        }
+        for place in 2..6 {
+            assert_eq!((number(&after, place), place_words(&after, place)), (0, [0; 4]));
+        }
+        assert_eq!(after[number_at(8)..place_at(0)], before[number_at(8)..place_at(0)]);
+        assert_eq!(after[place_at(6)..], before[place_at(6)..]);
+    }
+
+    #[test]
+    fn r7_6_a_count_above_512_becomes_how_many_stay() {
+        for count in [512, 513, u64::MAX] {
+            let before = odd_words(count, &[50, 51]);
+            let mut after = before;
+            store_clearing(&mut after, 49);
+            assert_eq!((after[COUNT_AT], &after[1..]), (512, &before[1..]));
+            store_clearing(&mut after, 50);
+            assert_eq!((after[COUNT_AT], number(&after, 511)), (511, 0));
+            assert_eq!(after[place_at(0)..place_at(511)], before[place_at(1)..]);
+            store_clearing(&mut after, u32::MAX);
+            assert!(after[HEADER_SIZE..].iter().all(|&word| word == 0));
+            assert_eq!(after[..HEADER_SIZE], [&[0][..], &before[1..HEADER_SIZE]].concat());
+        }
+    }
+
+    #[test]
+    fn r7_6_the_words_stand_for_what_the_service_clears() {
+        let accounts = [0; ACCOUNTS_SIZE];
+        for clock in [0, 49, 50, 51, u32::MAX] {
+            let mut ledger = odd_words(u64::MAX, &[50, 51, 50, 0, 52]);
+            let mut cleared = service(&accounts, &ledger);
+            cleared.clear(clock);
+            store_clearing(&mut ledger, clock);
+            assert_eq!(service(&accounts, &ledger), cleared);
         }
     }
 }

@@ -5,9 +5,12 @@ use harness::accounts::Edit;
 use harness::calls::{Answer, RequestFields};
 use harness::histories::{edit_of, generate, odd, Call};
 use harness::library;
-use harness::limits::{ACCOUNTS_SIZE, ACCOUNT_LIMIT, LEDGER_SIZE, LONGEST_RECORD, NAME_LIMIT};
+use harness::limits::{
+    ACCOUNTS_SIZE, ACCOUNT_LIMIT, LEDGER_SIZE, LONGEST_RECORD, NAME_LIMIT, TICKET_LIMIT,
+};
 use harness::random::Random;
 use harness::samples::{counted, w1, w3_with, TICKET_0, TICKET_1, TICKET_2};
+use harness::words::{place_at, COUNT_AT};
 use std::env;
 use std::ffi::{c_int, c_void};
 use std::os::unix::process::ExitStatusExt;
@@ -157,6 +160,11 @@ impl FencedCalls {
         answer
     }
 
+    /// `tickets_clear`, with its words at fences.
+    fn clear(&mut self, clock: u32) -> u32 {
+        library::clear(self.accounts.words(self.side), self.ledger.words(self.side), clock)
+    }
+
     /// `tickets_rewrite`, into an output of this length.
     fn rewrite(&mut self, record: &[u8], length: usize) -> Answer {
         let record = self.input.copy(self.side, record);
@@ -205,7 +213,7 @@ fn histories_run_at_fences_as_elsewhere() {
             assert!(fenced.words() == *plain, "the words at the {side:?}");
             let ledger = fenced.ledger.words(side);
             assert_eq!(library::day_total(ledger), plain.day_total());
-            for number in (0..520).chain([65_535, 65_536, u32::MAX]) {
+            for number in (0..1_040).chain([65_535, 65_536, u32::MAX]) {
                 assert_eq!(library::descent(ledger, number), plain.descent(number));
             }
         }
@@ -225,6 +233,36 @@ fn make_both(plain: &mut library::Service, fenced: &mut FencedCalls, call: &Call
             let answer = fenced.request(request, *clock, &mut one);
             assert_eq!(answer, plain.request(request, *clock, &mut other), "{call}");
             assert_eq!(one, other, "{call}");
+        }
+        Call::Clear { clock } => assert_eq!(fenced.clear(*clock), plain.clear(*clock), "{call}"),
+    }
+}
+
+/// Words of a ledger with this count, in which the end of place i is i.
+fn ends_in_order(count: u64) -> library::Service {
+    let mut service = library::Service::filled(u64::MAX);
+    service.ledger[COUNT_AT] = count;
+    for place in 0..TICKET_LIMIT {
+        service.ledger[place_at(place) + 1] = (place as u64) << 32;
+    }
+    service
+}
+
+#[test]
+fn clearings_of_every_size_at_fences() {
+    for side in SIDES {
+        let mut fenced = FencedCalls::new(side);
+        for count in [0, 1, 4, 5, 511, 512, 513, 1 << 32, u64::MAX] {
+            let service = ends_in_order(count);
+            let held = count.min(TICKET_LIMIT as u64) as u32;
+            for clock in (0..520).chain([u32::MAX]) {
+                let mut plain = service.clone();
+                fenced.set(&service);
+                make_both(&mut plain, &mut fenced, &Call::Clear { clock });
+                assert!(fenced.words() == plain, "{count} tickets cleared at {clock}");
+                let stay = held - held.min(clock.saturating_add(1));
+                assert_eq!(plain.ledger[COUNT_AT], stay.into(), "{count} cleared at {clock}");
+            }
         }
     }
 }

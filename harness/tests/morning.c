@@ -1,6 +1,6 @@
-/* The morning of R11.3 over include/tickets.h: by the calls over a tickets_service, and again by the plain calls. Every answer is compared
- * with the bytes that the rules give. Prints the four lines of the morning; a difference goes to standard error, and ends the program with
- * 1. */
+/* The morning of R11.3, and the clearing of R11.5 after it, over include/tickets.h: by the calls over a tickets_service, and again by the
+ * plain calls. Every answer is compared with the bytes that the rules give. Prints the four lines of the morning; a difference goes to
+ * standard error, and ends the program with 1. */
 #include <stdio.h>
 #include <stdlib.h>
 #include <string.h>
@@ -10,12 +10,13 @@
 /* What an output holds before a call, and how many bytes it has. */
 enum { UNTOUCHED = 0xEE, OUTPUT = 40 };
 
-/* The records of the morning: ticket 0 of W1, ticket 1 of W2, ticket 2 of W3. */
+/* The records of the morning: ticket 0 of W1, ticket 1 of W2, ticket 2 of W3; and ticket 3 of W1 after the clearing. */
 static const uint8_t TICKET_0[] = {0x00, 0x37, 0x00, 0x00, 0x00, 0x40, 0x00, 0x00, 0x01, 0x00, 0x00, 0x03, 0xe8, 0x00, 0x00, 0x90, 0x88};
 static const uint8_t TICKET_1[] = {0x04, 0x7f, 0x00, 0x01, 0x40, 0x00, 0x00, 0x00, 0x00, 0x01,
                                    0x00, 0x00, 0x03, 0xf2, 0x00, 0x00, 0x90, 0x88, 0x00, 0x00};
 static const uint8_t TICKET_2[] = {0x01, 0xff, 0x00, 0x02, 0x40, 0x00, 0x00, 0x00, 0x00, 0x02, 0x00, 0x00,
                                    0x03, 0xfc, 0x00, 0x00, 0x90, 0x88, 0x00, 0x00, 0x00, 0x01, 0x01, 0x01};
+static const uint8_t TICKET_3[] = {0x00, 0x37, 0x00, 0x03, 0x00, 0x40, 0x00, 0x00, 0x01, 0x00, 0x00, 0x03, 0xe8, 0x00, 0x00, 0x90, 0x88};
 
 /* W1: kind 1, `web`. */
 static const uint8_t W1[] = {0x00, 0x41, 0x01, 0x03, 'w', 'e', 'b'};
@@ -36,6 +37,7 @@ typedef struct {
                      uint64_t receive, uint32_t lifetime);
     tickets_answer (*request)(tickets_service *service, const uint8_t *request, size_t request_len, uint32_t clock, uint8_t *output,
                               size_t output_len);
+    uint32_t (*clear)(tickets_service *service, uint32_t clock);
     tickets_answer (*descent)(const tickets_service *service, uint32_t number);
     uint64_t (*day_total)(const tickets_service *service);
 } calls;
@@ -57,6 +59,11 @@ static tickets_answer plain_request(tickets_service *service, const uint8_t *byt
     return tickets_request(service->accounts, service->ledger, bytes, length, clock, output, output_len);
 }
 
+static uint32_t plain_clear(tickets_service *service, uint32_t clock)
+{
+    return tickets_clear(service->accounts, service->ledger, clock);
+}
+
 static tickets_answer plain_descent(const tickets_service *service, uint32_t number)
 {
     return tickets_descent(service->ledger, number);
@@ -67,9 +74,9 @@ static uint64_t plain_day_total(const tickets_service *service)
     return tickets_day_total(service->ledger);
 }
 
-static const calls OVER_SERVICE = {tickets_service_fresh, tickets_service_edit, tickets_service_request, tickets_service_descent,
-                                   tickets_service_day_total};
-static const calls PLAIN = {plain_fresh, plain_edit, plain_request, plain_descent, plain_day_total};
+static const calls OVER_SERVICE = {tickets_service_fresh, tickets_service_edit, tickets_service_request, tickets_service_clear,
+                                   tickets_service_descent, tickets_service_day_total};
+static const calls PLAIN = {plain_fresh, plain_edit, plain_request, plain_clear, plain_descent, plain_day_total};
 
 /* Ends the program unless the condition holds. */
 static void expect(int holds, const char *what)
@@ -186,7 +193,21 @@ static void look_back(const calls *by, const tickets_service *service)
     expect(by->day_total(service) == DAY_TOTAL, "the day total");
 }
 
-/* The morning from a service whose words are not 0, to W4. */
+/* The three tickets end at 37000: none goes a second before, and all go then. */
+static void clear_out(const calls *by, tickets_service *service)
+{
+    tickets_service before = *service;
+    expect(by->clear(service, 36999) == 0, "a clearing before the tickets' end");
+    expect(memcmp(&before, service, sizeof before) == 0, "a clearing that takes none out leaves the service as before");
+    expect(by->clear(service, 37000) == 3, "a clearing at the tickets' end");
+    expect(memcmp(before.accounts, service->accounts, sizeof before.accounts) == 0, "a clearing leaves the accounts as before");
+    expect(by->clear(service, 37000) == 0, "a second clearing");
+    tickets_answer none = by->descent(service, 0);
+    expect(none.error == TICKETS_KRB_AP_ERR_MODIFIED && none.value == 0, "the descent of a ticket that went");
+    expect(by->day_total(service) == 0, "the day total of an empty ledger");
+}
+
+/* The morning from a service whose words are not 0, to W4; then the clearing, the requests with tickets that went, and W1 once more. */
 static void morning(const calls *by, tickets_service *service, int print)
 {
     request second = w2();
@@ -202,6 +223,10 @@ static void morning(const calls *by, tickets_service *service, int print)
     granted(by, service, third.bytes, third.length, 1020, TICKET_2, sizeof TICKET_2, print);
     refused(by, service, third.bytes, third.length, 37000, OUTPUT, TICKETS_KRB_AP_ERR_TKT_EXPIRED, print);
     look_back(by, service);
+    clear_out(by, service);
+    refused(by, service, second.bytes, second.length, 1010, OUTPUT, TICKETS_KRB_AP_ERR_MODIFIED, 0);
+    refused(by, service, third.bytes, third.length, 1020, OUTPUT, TICKETS_KRB_AP_ERR_MODIFIED, 0);
+    granted(by, service, W1, sizeof W1, 1000, TICKET_3, sizeof TICKET_3, 0);
 }
 
 int main(void)

@@ -4,28 +4,42 @@
 use harness::histories::{edit_of, generate, Call, History};
 use harness::library::Service;
 use harness::random::Random;
+use harness::words::{COUNT_AT, NEXT_AT};
 
 /// Where the seeds of the histories begin, and how many there are.
 const SEED: u64 = 0x7072_6F70_0000_0000;
 const HISTORIES: u64 = 200;
 
-/// What a call answered: the error number, and the record of a grant.
+/// What a call answered: the error number, or of a clearing how many it took out; and the record of a
+/// grant.
 type Reply = (u32, Vec<u8>);
 
-/// Makes a call; its buffers stand at some place among random bytes. Bytes of the output behind the
-/// record, all of it on a refusal, have to stay as they are.
+/// Makes a call.
 fn make(service: &mut Service, call: &Call, random: &mut Random) -> Reply {
-    let Call::Request { request, clock, output } = call else {
-        return (service.edit(&edit_of(call).expect("an edit")), Vec::new());
-    };
+    match call {
+        Call::Edit { .. } => (service.edit(&edit_of(call).expect("an edit")), Vec::new()),
+        Call::Request { request, clock, output } => ask(service, request, *clock, *output, random),
+        Call::Clear { clock } => (service.clear(*clock), Vec::new()),
+    }
+}
+
+/// Makes a request; its buffers stand at some place among random bytes. Bytes of the output behind the
+/// record, all of it on a refusal, have to stay as they are.
+fn ask(
+    service: &mut Service,
+    request: &[u8],
+    clock: u32,
+    output: usize,
+    random: &mut Random,
+) -> Reply {
     let at = random.below(16);
     let mut given = random.bytes(at + request.len() + 16);
     given[at..][..request.len()].copy_from_slice(request);
-    let before = random.bytes(*output + 16);
+    let before = random.bytes(output + 16);
     let mut after = before.clone();
-    let answer = service.request(&given[at..][..request.len()], *clock, &mut after[..*output]);
+    let answer = service.request(&given[at..][..request.len()], clock, &mut after[..output]);
     let length = answer.value as usize;
-    assert_eq!(after[length..], before[length..], "bytes that are not the record's, {call}");
+    assert_eq!(after[length..], before[length..], "bytes that are not the record's, {request:x?}");
     (answer.error, after[..length].to_vec())
 }
 
@@ -133,5 +147,49 @@ fn descent_and_day_total_only_read() {
         }
         assert_eq!(service.day_total(), total);
         assert_same(&service, &before, "the words after descents and totals");
+    }
+}
+
+/// The words after a clearing at this clock reading, and how many tickets it took out.
+fn cleared(service: &Service, clock: u32) -> (Box<Service>, u32) {
+    let mut after = Box::new(service.clone());
+    let taken = after.clear(clock);
+    (after, taken)
+}
+
+#[test]
+fn two_clearings_are_one_at_the_later_clock() {
+    for history in histories() {
+        let mut random = Random(history.seed);
+        let mut service = first_over(&history, 0);
+        make_all(&mut service, &history.calls, &mut random);
+        let (early, late) = (random.below(4_000) as u32, random.word() as u32);
+        let (expected, taken) = cleared(&service, early.max(late));
+        for (first, second) in [(early, late), (late, early), (early.max(late), early.max(late))] {
+            let (between, some) = cleared(&service, first);
+            let (after, others) = cleared(&between, second);
+            assert_eq!(some + others, taken, "clearings at {first} and {second}");
+            assert_same(&after, &expected, "the words after two clearings");
+        }
+        assert!(service.accounts == expected.accounts, "a clearing leaves the accounts");
+    }
+}
+
+#[test]
+fn a_clearing_leaves_the_descents_of_what_stays() {
+    for history in histories().filter(|history| history.start.is_none()) {
+        let mut service = first_over(&history, 0);
+        make_all(&mut service, &history.calls, &mut Random(history.seed));
+        let clock = Random(history.seed).below(40_000) as u32;
+        let (after, taken) = cleared(&service, clock);
+        let mut gone = 0;
+        for number in 0..service.ledger[NEXT_AT] as u32 {
+            let (before, after) = (service.descent(number), after.descent(number));
+            gone += u32::from(before != after);
+            assert!(after == before || after.error == 41, "the descent of {number}");
+        }
+        assert_eq!(gone, taken, "as many descents are gone as tickets");
+        assert!(after.day_total() <= service.day_total());
+        assert_eq!(after.ledger[COUNT_AT] + u64::from(taken), service.ledger[COUNT_AT]);
     }
 }

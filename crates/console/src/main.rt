@@ -3,6 +3,7 @@
 //     fresh                                                       0 -
 //     edit NUMBER NAME FLAGS SEND RECEIVE LIFETIME                0 -, or 12 -
 //     request CLOCK OUTPUT-LENGTH BYTES                           0 RECORD, or 32 -
+//     clear CLOCK                                                 0 COUNT
 //     descent NUMBER                                              0 STEPS, or 41 -
 //     total                                                       0 SECONDS
 //     ledger                                                      0 COUNT, then COUNT lines, one record each
@@ -739,6 +740,25 @@ fn call_proxy(accounts: &mut AccountWords, ledger: &mut LedgerWords, line: &[u8]
     send_named(accounts, ledger, &mut space, name_at, word(line, 4), clock)
 }
 
+// A call that takes one number of 32 bits.
+fn one_number(line: &[u8]) -> Wrong {
+    if !has_arguments(line, 1, 1) {
+        return Wrong::Words;
+    }
+    if !number_32(line, 1).good {
+        return Wrong::Number;
+    }
+    Wrong::Nothing
+}
+
+fn call_clear(ledger: &mut LedgerWords, line: &[u8]) -> Wrong {
+    let wrong = one_number(line);
+    if !is_wrong(wrong) {
+        print_value(ledger::clear(ledger, low_32(number_32(line, 1))) as u64);
+    }
+    wrong
+}
+
 fn print_descended(descended: Descended) {
     match descended {
         Descended::Steps(steps) => print_value(steps as u64),
@@ -747,15 +767,11 @@ fn print_descended(descended: Descended) {
 }
 
 fn call_descent(ledger: &LedgerWords, line: &[u8]) -> Wrong {
-    if !has_arguments(line, 1, 1) {
-        return Wrong::Words;
+    let wrong = one_number(line);
+    if !is_wrong(wrong) {
+        print_descended(ledger::descent(ledger, low_32(number_32(line, 1))));
     }
-    let number = number_32(line, 1);
-    if !number.good {
-        return Wrong::Number;
-    }
-    print_descended(ledger::descent(ledger, low_32(number)));
-    Wrong::Nothing
+    wrong
 }
 
 fn call_total(ledger: &LedgerWords, line: &[u8]) -> Wrong {
@@ -795,6 +811,7 @@ enum Command {
     Fresh,
     Edit,
     Request,
+    Clear,
     Descent,
     Total,
     Ledger,
@@ -815,6 +832,9 @@ fn plain_command(command: &[u8]) -> Command {
     }
     if same(command, b"request") {
         return Command::Request;
+    }
+    if same(command, b"clear") {
+        return Command::Clear;
     }
     if same(command, b"descent") {
         return Command::Descent;
@@ -849,6 +869,7 @@ fn call(accounts: &mut AccountWords, ledger: &mut LedgerWords, line: &[u8]) -> W
         Command::Fresh => call_fresh(accounts, ledger, line),
         Command::Edit => call_edit(accounts, line),
         Command::Request => call_request(accounts, ledger, line),
+        Command::Clear => call_clear(ledger, line),
         Command::Descent => call_descent(ledger, line),
         Command::Total => call_total(ledger, line),
         Command::Ledger => call_ledger(ledger, line),

@@ -30,7 +30,7 @@ use Rattle.definitions.specs.Answers.{Call, edit, request, Reply, decide
 use Rattle.definitions.specs.Book.{Note, requestOf, tickets, emptyBook, after, replies}
 use Rattle.definitions.specs.Services.{freshService, withGrant}
 use Rattle.definitions.specs.History.{serviceAfter, repliesTo}
-use Rattle.definitions.specs.Demand.{granted}
+use Rattle.definitions.specs.Demand.{granted, grantTicket}
 use Rattle.definitions.specs.LawfulDescent.{trailList, serviceIn, isDelegated}
 use Rattle.definitions.specs.declared.error.Error.the-variants.{«KRB_AP_ERR_MODIFIED», «KRB_ERR_GENERIC»}
 use Rattle.definitions.specs.declared.error.Answer.the-variants.{Accepted, Refused}
@@ -177,7 +177,7 @@ pub record LedgerCases : Type 0 where
   pub book-table : after emptyBook calls .table ≡ set noAccounts 0 (editRow (editOf 0 tech 2 0 0 100))
   pub room-fed : map seen (replies emptyBook (edit (editOf 0 tech 0 0 0 100) ∷ request (request-1 nothing nothing tech) 5 (replicate 30 0xAA) ∷ [])) ≡ (0 ∷ []) ∷ (52 ∷ replicate 30 0xAA) ∷ []
   -- R8.1, R10.3: the same calls of a service, from a fresh one on: the tickets that granted requests returned, the replies, and the words left
-  pub granted-tickets : granted freshService calls ≡ first ∷ second ∷ []
+  pub granted-tickets : map grantTicket (granted freshService calls) ≡ first ∷ second ∷ []
   pub service-replies : map seen (repliesTo freshService calls) ≡ map seen (replies emptyBook calls)
   pub service-tickets : ticketsOf (serviceAfter freshService calls .ledger) ≡ first ∷ second ∷ []
   pub service-table : tableOf (serviceAfter freshService calls .accounts) ≡ set noAccounts 0 (editRow (editOf 0 tech 2 0 0 100))

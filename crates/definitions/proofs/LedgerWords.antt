@@ -9,11 +9,11 @@ use native.Mathlib.Nat.{add-zero, zero-add, min-eq-right}
 use native.Mathlib.Numerals.{add-one}
 use native.Mathlib.Omega.{arith}
 use lib.Arith.{digits-div, digits-mod}
-use lib.ListN.{length, getD, length-set}
+use lib.ListN.{length, getD, set, length-set}
 use lib.Seq.{getD-set-same, getD-set-other}
 use lib.Dec.{eqb}
 use mir.Val.{Fits}
-use Rattle.definitions.specs.Limits.{ledgerSize, ticketLimit, placeSize, two16, two32, two48, trailLimit, byteBits, numberBits, countWord, numbersStart, windowWord, backWord, trailWord, two4, two8, two40, two56, two60}
+use Rattle.definitions.specs.Limits.{ledgerSize, ticketLimit, placeSize, two16, two32, two48, trailLimit, byteBits, numberBits, countWord, nextWord, numbersStart, windowWord, backWord, trailWord, two4, two8, two40, two56, two60}
 use mir.Syntax.{w16}
 use Rattle.definitions.specs.TicketRecords.{InRange, tgtOf, evidenceOf}
 use Rattle.definitions.specs.declared.ticket.Origin.{Origin}
@@ -151,7 +151,14 @@ put-ticket-length w i t =
 
 pub length-stored : (w : List ℕ) (t : Ticket) → length (storeTicket w t) ≡ length w
 unfolding storeTicket
-length-stored w t = length-set (putTicket w (countHeld w) t) countWord (countHeld w + 1) ∙ put-ticket-length w (countHeld w) t
+length-stored w t = simp length-set (put-ticket-length w (countHeld w) t)
+
+-- R5.10: the next number is one more
+pub next-stored : (w : List ℕ) (t : Ticket) → length w ≡ ledgerSize → nextNumber (storeTicket w t) ≡ nextNumber w + 1
+unfolding storeTicket
+next-stored w t l =
+    let n = countHeld w in
+    getD-set-same (set (putTicket w n t) countWord (n + 1)) nextWord (nextNumber w + 1) 0 (simp (length-set, put-ticket-length) (omega arith))
 
 -- one place more
 tickets-more : (w : List ℕ) (i n : ℕ) → ticketsFrom w i (suc n) ≡ ticketsFrom w i n ++ (ticketAt w (i + n) ∷ [])
@@ -160,10 +167,6 @@ tickets-more w i zero = rw add-zero
 tickets-more w i (suc n) =
     let e : i + 1 + n ≡ i + suc n = omega arith in
     ap (λ (r : List Ticket). ticketAt w i ∷ r) (tickets-more w (i + 1) n ∙ rw e)
-
--- the next number is one that a ticket can have
-pub next-fits : (w : List ℕ) → Fits w16 (nextNumber w)
-next-fits w = record { fits = omega arith }
 
 -- places that hold the same words hold the same tickets
 tickets-same : (v w : List ℕ) (i n : ℕ) → ((k : ℕ) → k < i + n → ticketAt v k ≡ ticketAt w k) → ticketsFrom v i n ≡ ticketsFrom w i n
@@ -176,18 +179,29 @@ module _ (w : List ℕ) (t : Ticket) (l : length w ≡ ledgerSize) (h : countHel
   abbrev count : ℕ
   count = countHeld w
 
+  -- the words with the ticket and the count, before the next number is put
+  abbrev counted : List ℕ
+  counted = set (putTicket w count t) countWord (count + 1)
+
   count-stored : countHeld (storeTicket w t) ≡ count + 1
   unfolding storeTicket
   count-stored =
       let e : getD (storeTicket w t) countWord 0 ≡ count + 1 =
-      getD-set-same (putTicket w count t) countWord (count + 1) 0 (rw (put-ticket-length w count t) (omega arith))
+      getD-set-other counted nextWord countWord (nextNumber w + 1) 0 (λ e. omega arith)
+      ∙ getD-set-same (putTicket w count t) countWord (count + 1) 0 (rw (put-ticket-length w count t) (omega arith))
       in
       rw e (omega arith)
 
+  -- behind the header only the ticket was put
+  behind-header : (k : ℕ) → nextWord < k → getD (storeTicket w t) k 0 ≡ getD (putTicket w count t) k 0
+  unfolding storeTicket
+  behind-header k r =
+      getD-set-other counted nextWord k (nextNumber w + 1) 0 (λ e. omega arith)
+      ∙ getD-set-other (putTicket w count t) countWord k (count + 1) 0 (λ e. omega arith)
+
   -- the words of a place are those of the row that was put, or as they were
   word-after : (i k : ℕ) → getD (storeTicket w t) (placeStart i + k) 0 ≡ getD (putTicket w count t) (placeStart i + k) 0
-  unfolding storeTicket
-  word-after i k = getD-set-other (putTicket w count t) countWord (placeStart i + k) (count + 1) 0 (λ e. omega arith)
+  word-after i k = behind-header (placeStart i + k) (omega arith)
 
   word-kept : (i k : ℕ) → i < count → k < placeSize → placeWord (storeTicket w t) i k ≡ placeWord w i k
   word-kept i k r m =
@@ -201,10 +215,10 @@ module _ (w : List ℕ) (t : Ticket) (l : length w ≡ ledgerSize) (h : countHel
 
   -- the numbers are those of the lane that was put, or as they were
   number-after : (i : ℕ) → i < ticketLimit → laneAt numberBits (storeTicket w t) numbersStart i ≡ laneAt numberBits (putLane numberBits w numbersStart count (t .number)) numbersStart i
-  unfolding storeTicket laneAt
+  unfolding laneAt
   number-after i r =
       rw (
-        getD-set-other (putTicket w count t) countWord (wordOfLane numberBits numbersStart i) (count + 1) 0 (λ e. omega arith),
+        behind-header (wordOfLane numberBits numbersStart i) (omega arith),
         put-other (ticketWords t) (putLane numberBits w numbersStart count (t .number)) (placeStart count) (wordOfLane numberBits numbersStart i) (λ q. absurd (omega arith)),
       )
 

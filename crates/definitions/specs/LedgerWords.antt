@@ -1,12 +1,12 @@
--- The ledger in the words that the caller lends: a header with the stored count, the tickets' numbers in lanes of 16 bits, and four words for
--- each place (R7.1). Any words are some ledger: a stored count above the places counts as all of them.
+-- The ledger in the words that the caller lends: a header with the stored count and the next number, the tickets' numbers in lanes of 16 bits,
+-- and four words for each place (R7.1). Any words are some ledger: a stored count above the places counts as all of them.
 -- Assumes nothing.
 use Prim.Native.Nat.{ℕ, zero, suc, _+_, _*_, _/_, _%_, min}
 use mathlib.Core.Bool.{Bool, true, false, cond}
 use mathlib.Core.List.{List, [], _∷_}
 use lib.ListN.{getD, set, replicate}
 use lib.Dec.{eqb}
-use Rattle.definitions.specs.Limits.{ticketLimit, trailLimit, byteBits, numberBits, two4, two8, two16, two32, two40, two48, two56, two60, countWord, numbersStart, placesStart, placeSize, windowWord, backWord, trailWord, ledgerSize}
+use Rattle.definitions.specs.Limits.{ticketLimit, trailLimit, byteBits, numberBits, two4, two8, two16, two32, two40, two48, two56, two60, countWord, nextWord, numbersStart, placesStart, placeSize, windowWord, backWord, trailWord, ledgerSize}
 use Rattle.definitions.specs.TicketRecords.{tgtOf, evidenceOf}
 use Rattle.definitions.specs.Words.{lanesOf, packAt, laneAt, putLane, putRow}
 use Rattle.definitions.specs.declared.ticket.Origin.{Origin}
@@ -78,9 +78,9 @@ ticketAt words place = ticketOn (placeAt words place)
 abbrev pub countHeld : List ℕ → ℕ
 countHeld words = min (getD words countWord 0) ticketLimit
 
--- R5.10: the number of the next ticket
+-- R5.10: the stored number of the next ticket
 abbrev pub nextNumber : List ℕ → ℕ
-nextNumber words = countHeld words
+nextNumber words = getD words nextWord 0
 
 -- the tickets of n places from one on
 unfoldable pub ticketsFrom : List ℕ → ℕ → ℕ → List Ticket
@@ -114,10 +114,11 @@ ticketWords ticket =
 abbrev pub putTicket : List ℕ → ℕ → Ticket → List ℕ
 putTicket words place ticket = putPlace words place (record { number = ticket .number; row = ticketWords ticket })
 
--- R7.3: the words after a ticket is put at the end of the ledger
+-- R7.3, R5.10: the words after a ticket is put at the end of the ledger: the count and the next number are one more
 unfoldable pub storeTicket : List ℕ → Ticket → List ℕ
-storeTicket words ticket = set (putTicket words (countHeld words) ticket) countWord (countHeld words + 1)
+storeTicket words ticket =
+    set (set (putTicket words (countHeld words) ticket) countWord (countHeld words + 1)) nextWord (nextNumber words + 1)
 
--- R7.2: the words of a ledger without tickets
+-- R7.2: the words of a ledger without tickets, whose first has number 0
 abbrev pub noTicketWords : List ℕ
 noTicketWords = replicate ledgerSize 0

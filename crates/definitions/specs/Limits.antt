@@ -30,6 +30,10 @@ longestRecord = 31
 abbrev pub ticketLimit : ℕ
 ticketLimit = 512
 
+-- R5.10: the last number that a ticket is given
+abbrev pub lastNumber : ℕ
+lastNumber = 65535
+
 -- R1.2: the last second that a clock reading or an end can name
 abbrev pub lastSecond : ℕ
 lastSecond = 4294967295
@@ -104,11 +108,15 @@ receiveWord = 5
 abbrev pub accountsSize : ℕ
 accountsSize = 520
 
--- ---- The ledger's words: a header of eight words, of which one holds the stored count, another is kept for the next number, and six are
--- free; the numbers of all places, a column of lanes; then a row for each place
+-- ---- The ledger's words: a header of eight words, of which one holds the stored count, another the next number, and six are free; the
+-- numbers of all places, a column of lanes; then a row for each place
 -- the word that holds the stored count
 abbrev pub countWord : ℕ
 countWord = 0
+
+-- the word that holds the next number
+abbrev pub nextWord : ℕ
+nextWord = 1
 
 -- the word at which the numbers start
 abbrev pub numbersStart : ℕ

@@ -1,4 +1,4 @@
--- A service as lent words, and what each call makes of it: `perform`, a case for each call (R2.8, R6.1, R7.2, R7.3).
+-- A service as lent words, and what each call makes of it: `perform`, a case for each call (R2.8, R6.1, R7.2, R7.3, R7.6).
 -- Assumes nothing.
 use mathlib.Core.List.{List, []}
 use Prim.Native.Nat.{ℕ}
@@ -11,7 +11,9 @@ use Rattle.definitions.specs.AccountWords.{tableOf, storedBy, noAccountW
 use Rattle.definitions.specs.Edits.{Edit, editAnswer}
 use Rattle.definitions.specs.LedgerWords.{nextNumber, ticketsOf, storeTicket, noTicketWords}
 use Rattle.definitions.specs.declared.decision.Decision.{Decision}
-use Rattle.definitions.specs.Answers.{decideRequest, laid, Call, edit, request, Reply}
+use Rattle.definitions.specs.Clearing.{gone}
+use Rattle.definitions.specs.ClearedWords.{clearTickets}
+use Rattle.definitions.specs.Answers.{decideRequest, laid, Call, edit, request, clear, Reply}
 
 -- R7.1: the lent words: those of the accounts and those of the ledger
 pub record Service : Type 0 where
@@ -32,7 +34,7 @@ pub record Outcome : Type 0 where
 abbrev pub editedService : Service → Edit → Answer → Outcome
 editedService service change answer =
     record {
-      reply = record { answer = answer; ticket = blankTicket; output = [] };
+      reply = record { answer = answer; ticket = blankTicket; output = []; cleared = 0 };
       service = record { accounts = storedBy answer (service .accounts) change; ledger = service .ledger };
     }
 
@@ -56,7 +58,12 @@ abbrev pub requestedService : Service → List ℕ → Decision → Outcome
 requestedService service output decision =
     record {
       reply =
-          record { answer = decision .answer; ticket = decision .ticket; output = laid (decision .answer) (decision .ticket) output };
+          record {
+            answer = decision .answer;
+            ticket = decision .ticket;
+            output = laid (decision .answer) (decision .ticket) output;
+            cleared = 0;
+          };
       service =
           record {
             accounts = accountsAfter decision (service .accounts);
@@ -64,8 +71,18 @@ requestedService service output decision =
           };
     }
 
+-- ---- A clearing
+-- R7.6: it is never refused, takes the ended tickets out of the ledger and answers how many; the accounts stay
+abbrev pub clearedService : Service → ℕ → Outcome
+clearedService service clock =
+    record {
+      reply = record { answer = Accepted; ticket = blankTicket; output = []; cleared = gone clock (ticketsOf (service .ledger)) };
+      service = record { accounts = service .accounts; ledger = clearTickets (service .ledger) clock };
+    }
+
 -- ---- A call
 -- R1.1: what a call makes of a service: the reply, and the service after it
 abbrev pub perform : Service → Call → Outcome
 perform service (edit change) = editedService service change (editAnswer (tableOf (service .accounts)) change)
 perform service (request bytes clock output) = requestedService service output (decisionOf service bytes clock (length output))
+perform service (clear clock) = clearedService service clock

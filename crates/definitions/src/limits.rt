@@ -21,6 +21,9 @@ pub const LONGEST_RECORD: usize = 31;
 // How many tickets the ledger has places for (R7.1).
 pub const TICKET_LIMIT: usize = 512;
 
+// The last number that a ticket is given (R5.10).
+pub const LAST_NUMBER: u64 = 65535;
+
 // The last second that a clock reading or an end can name (R1.2).
 pub const LAST_SECOND: u32 = 4294967295;
 
@@ -55,9 +58,11 @@ pub const RECEIVE_WORD: usize = 5;
 
 pub const ACCOUNTS_SIZE: usize = 520;
 
-// The ledger's words: that of the stored count, where the numbers start, the bits of a number, how many stand in a word, where the places
+// The ledger's words: that of the stored count, that of the next number, where the numbers start, the bits of a number, how many stand in a word, where the places
 // start, the words of a place, those of them that hold start and end, the back numbers and the trail, and all words.
 pub const COUNT_WORD: usize = 0;
+
+pub const NEXT_WORD: usize = 1;
 
 pub const NUMBERS_START: usize = 8;
 

@@ -1,9 +1,11 @@
-// The calls: a fresh service, an edit, and a request (R6.1, R7.2, R7.3).
+// The calls: a fresh service, an edit, a request, and a clearing (R6.1, R7.2, R7.3, R7.6).
+use crate::clearing::clear_tickets;
 use crate::search::holds;
 use crate::storing::store_ticket;
 use crate::words::LedgerWords;
 use crate::words::count_held;
 use crate::words::fresh_ledger;
+use crate::words::next_number;
 use definitions::Answer;
 use definitions::Decision;
 use definitions::Error;
@@ -34,13 +36,13 @@ ghost use mathlib.Core.Path.{_≡_};
 ghost use mathlib.Core.List.{List, []};
 ghost use Prim.Native.Nat.{ℕ, _≤_};
 ghost use Rattle.definitions.specs.TicketRecords.{blankTicket};
-ghost use Rattle.definitions.specs.Limits.{longestRecord};
+ghost use Rattle.definitions.specs.Limits.{longestRecord, ticketLimit};
 ghost use Rattle.definitions.specs.AccountWords.{tableOf};
 ghost use Rattle.definitions.specs.Edits.{editOf};
 ghost use Rattle.definitions.specs.LedgerWords.{countHeld, nextNumber, ticketsOf};
 ghost use Rattle.ledger.specs.Lookups.{decideOn, lengthIn};
 ghost use Rattle.definitions.specs.Answers.{lengthOf, decideRead};
-ghost use Rattle.definitions.specs.Answers.{edit as an-edit, request as a-request};
+ghost use Rattle.definitions.specs.Answers.{edit as an-edit, request as a-request, clear as a-clearing};
 ghost use Rattle.definitions.specs.Services.{freshService, perform};
 ghost use Rattle.definitions.specs.Demand.{Demand3};
 ghost use Rattle.definitions.specs.Requests.{pathOf, requestLayout};
@@ -64,7 +66,7 @@ pub fn edit(
     receive: u64,
     lifetime: u32,
 ) -> Answer
-    ensures { λ r. ⌜ ((l : List ℕ) → record { reply = record { answer = r; ticket = blankTicket; output = [] }; service = record { accounts = now (accounts .exit); ledger = l } } ≡ perform (record { accounts = now (accounts .entry); ledger = l }) (an-edit (editOf number (now (name .entry)) flags send receive lifetime))) ⌝ }
+    ensures { λ r. ⌜ ((l : List ℕ) → record { reply = record { answer = r; ticket = blankTicket; output = []; cleared = 0 }; service = record { accounts = now (accounts .exit); ledger = l } } ≡ perform (record { accounts = now (accounts .entry); ledger = l }) (an-edit (editOf number (now (name .entry)) flags send receive lifetime))) ⌝ }
 {
     edit_account(accounts, number, name, flags, send, receive, lifetime)
 }
@@ -81,7 +83,7 @@ fn decide_read(
     requires { ⌜ count ≡ countHeld (now ledger) ⌝ }
     ensures { λ r. ⌜ r ≡ decideRead (tableOf (now (accounts .entry))) (ticketsOf (now (ledger .entry))) (now (bytes .entry)) (record { clock = clock; count = count; next = nextNumber (now (ledger .entry)) }) request ⌝ }
 {
-    let next = count as u16;
+    let next = next_number(ledger);
     let moment = Moment { clock, count, next };
     let asked = asks_forwardable(request.options);
     let kind = request.kind;
@@ -172,7 +174,7 @@ fn answer_on(
     kind: Kind,
 ) -> Replied
     requires { ⌜ Path.Decide kind ≡ pathOf (fieldOf requestLayout (now bytes) (mapOf (now bytes)) 0) (mapOf (now bytes)) ⌝ }
-    ensures performed { λ r. ⌜ record { reply = record { answer = r .answer; ticket = r .ticket; output = now (output .exit) }; service = record { accounts = now (accounts .exit); ledger = now (ledger .exit) } } ≡ perform (record { accounts = now (accounts .entry); ledger = now (ledger .entry) }) (a-request (now (bytes .entry)) clock (now (output .entry))) ⌝ }
+    ensures performed { λ r. ⌜ record { reply = record { answer = r .answer; ticket = r .ticket; output = now (output .exit); cleared = 0 }; service = record { accounts = now (accounts .exit); ledger = now (ledger .exit) } } ≡ perform (record { accounts = now (accounts .entry); ledger = now (ledger .entry) }) (a-request (now (bytes .entry)) clock (now (output .entry))) ⌝ }
     ensures measured { λ r. ⌜ r .length ≡ lengthOf (r .answer) (r .ticket) ⌝ }
     ensures bounded { λ r. ⌜ r .length ≤ longestRecord ⌝ }
 {
@@ -206,7 +208,7 @@ pub fn request(
     clock: u32,
     output: &mut [u8],
 ) -> Replied
-    ensures performed { λ r. ⌜ record { reply = record { answer = r .answer; ticket = r .ticket; output = now (output .exit) }; service = record { accounts = now (accounts .exit); ledger = now (ledger .exit) } } ≡ perform (record { accounts = now (accounts .entry); ledger = now (ledger .entry) }) (a-request (now (bytes .entry)) clock (now (output .entry))) ⌝ }
+    ensures performed { λ r. ⌜ record { reply = record { answer = r .answer; ticket = r .ticket; output = now (output .exit); cleared = 0 }; service = record { accounts = now (accounts .exit); ledger = now (ledger .exit) } } ≡ perform (record { accounts = now (accounts .entry); ledger = now (ledger .entry) }) (a-request (now (bytes .entry)) clock (now (output .entry))) ⌝ }
     ensures measured { λ r. ⌜ r .length ≡ lengthOf (r .answer) (r .ticket) ⌝ }
     ensures bounded { λ r. ⌜ r .length ≤ longestRecord ⌝ }
 {
@@ -219,6 +221,14 @@ pub fn request(
         };
     };
     answer_on(accounts, ledger, bytes, clock, output, kind)
+}
+
+// Clears out the tickets that have ended at a clock reading, and answers how many; whatever the accounts are, they stay.
+pub fn clear(ledger: &mut LedgerWords, clock: u32) -> usize
+    ensures performed { λ r. ⌜ ((a : List ℕ) → record { reply = record { answer = Answer.Accepted; ticket = blankTicket; output = []; cleared = r }; service = record { accounts = a; ledger = now (ledger .exit) } } ≡ perform (record { accounts = a; ledger = now (ledger .entry) }) (a-clearing clock)) ⌝ }
+    ensures bounded { λ r. ⌜ r ≤ ticketLimit ⌝ }
+{
+    clear_tickets(ledger, clock)
 }
 
 // Demand 3 holds of every list of calls, performed one after the other (R10.3).

@@ -1,5 +1,6 @@
 // Layer 3, the ledger: the tickets held, in words that the caller lends; the calls, descent and day total (R7).
 mod call;
+mod clearing;
 mod held;
 mod search;
 mod steps;
@@ -8,6 +9,7 @@ mod total;
 mod words;
 
 pub use call::Replied;
+pub use call::clear;
 pub use call::demand_3;
 pub use call::edit;
 pub use call::fresh;

@@ -1,9 +1,10 @@
-// The ledger's words: a header with the count; the tickets' numbers, four a word; and four words for each place: flags, client, service, hops,
+// The ledger's words: a header with the count and the next number; the tickets' numbers, four a word; and four words for each place: flags, client, service, hops,
 // the origin's tag and the barred mark; start and end; the back numbers; the trail, its first byte lowest (R7.1). Offsets are seen here and
 // nowhere else.
 use definitions::BACK_WORD;
 use definitions::COUNT_WORD;
 use definitions::LEDGER_SIZE;
+use definitions::NEXT_WORD;
 use definitions::NUMBER_BITS;
 use definitions::NUMBERS_IN_WORD;
 use definitions::NUMBERS_START;
@@ -25,11 +26,11 @@ use definitions::WINDOW_WORD;
 use definitions::Window;
 ghost use mathlib.Core.Path.{_≡_};
 ghost use mathlib.Core.List.{[], _∷_};
-ghost use Prim.Native.Nat.{_+_, _<_, _≤_, _/_, _%_};
+ghost use Prim.Native.Nat.{_+_, _*_, _<_, _≤_, _/_, _%_};
 ghost use lib.ListN.{getD, set};
-ghost use Rattle.definitions.specs.Limits.{ticketLimit, numberBits, countWord, numbersInWord, numberWords, numbersStart, placeSize, windowWord, two56, two4, two32, two16, two48};
+ghost use Rattle.definitions.specs.Limits.{ticketLimit, numberBits, countWord, nextWord, numbersInWord, numberWords, numbersStart, placeSize, windowWord, two56, two4, two32, two16, two48};
 ghost use Rattle.definitions.specs.Words.{laneOf, setLane, putLane, putRow};
-ghost use Rattle.definitions.specs.LedgerWords.{placeStart, placeWord, originIn, windowIn, ticketIn, ticketAt, countHeld, noTicketWords};
+ghost use Rattle.definitions.specs.LedgerWords.{placeStart, placeWord, placeAt, originIn, windowIn, ticketIn, ticketAt, countHeld, nextNumber, noTicketWords};
 
 // The words of the header, of all numbers and of all places.
 pub type LedgerWords = [u64; LEDGER_SIZE];
@@ -45,6 +46,13 @@ pub fn count_held(words: &LedgerWords) -> usize
     } else {
         TICKET_LIMIT
     }
+}
+
+// The next number, as it is stored.
+pub(crate) fn next_number(words: &LedgerWords) -> u64
+    ensures { λ r. ⌜ r ≡ nextNumber (now (words .entry)) ⌝ }
+{
+    words[NEXT_WORD]
 }
 
 // A word of the numbers.
@@ -179,6 +187,13 @@ pub(crate) fn put_count(words: &mut LedgerWords, n: usize)
     words[COUNT_WORD] = n as u64;
 }
 
+// Puts the next number.
+pub(crate) fn put_next(words: &mut LedgerWords, next: u64)
+    ensures { λ _. ⌜ now (words .exit) ≡ set (now (words .entry)) nextWord next ⌝ }
+{
+    words[NEXT_WORD] = next;
+}
+
 // A word of numbers with another number in one of its lanes.
 fn with_number(word: u64, k: usize, number: u16) -> u64
     requires { ⌜ k < numbersInWord ⌝ }
@@ -199,16 +214,24 @@ pub(crate) fn put_number(words: &mut LedgerWords, i: usize, number: u16)
     words[NUMBERS_START + k] = with_number(word, i % NUMBERS_IN_WORD, number);
 }
 
+// Puts the four words of the place that starts at a word of the places.
+pub(crate) fn put_row(words: &mut LedgerWords, at: usize, a: u64, b: u64, c: u64, d: u64)
+    requires { ⌜ (at % placeSize ≡ 0) × (at < placeSize * ticketLimit) ⌝ }
+    ensures { λ _. ⌜ now (words .exit) ≡ putRow (now (words .entry)) (placeStart (at / placeSize)) (a ∷ b ∷ c ∷ d ∷ []) ⌝ }
+{
+    let start = PLACES_START + at;
+    words[start] = a;
+    words[start + WINDOW_WORD] = b;
+    words[start + BACK_WORD] = c;
+    words[start + TRAIL_WORD] = d;
+}
+
 // Puts the four words of a place.
 pub(crate) fn put_place(words: &mut LedgerWords, i: usize, a: u64, b: u64, c: u64, d: u64)
     requires { ⌜ i < ticketLimit ⌝ }
     ensures { λ _. ⌜ now (words .exit) ≡ putRow (now (words .entry)) (placeStart i) (a ∷ b ∷ c ∷ d ∷ []) ⌝ }
 {
-    let at = PLACES_START + PLACE_SIZE * i;
-    words[at] = a;
-    words[at + WINDOW_WORD] = b;
-    words[at + BACK_WORD] = c;
-    words[at + TRAIL_WORD] = d;
+    put_row(words, PLACE_SIZE * i, a, b, c, d);
 }
 
 // A ledger without tickets (R7.2).
@@ -216,4 +239,27 @@ pub(crate) fn fresh_ledger(words: &mut LedgerWords)
     ensures { λ _. ⌜ now (words .exit) ≡ noTicketWords ⌝ }
 {
     *words = [0u64; LEDGER_SIZE];
+}
+
+// Puts a word of the numbers, and answers the one that was there, so that a proof knows that it fits a word.
+pub(crate) fn swap_numbers(words: &mut LedgerWords, k: usize, word: u64) -> u64
+    requires { ⌜ k < numberWords ⌝ }
+    ensures answered { λ r. ⌜ r ≡ getD (now (words .entry)) (numbersStart + k) 0 ⌝ }
+    ensures put { λ _. ⌜ now (words .exit) ≡ set (now (words .entry)) (numbersStart + k) word ⌝ }
+{
+    let old = words[NUMBERS_START + k];
+    words[NUMBERS_START + k] = word;
+    old
+}
+
+// Puts the four words of a place at the one that starts at a word of the places.
+pub(crate) fn move_place(words: &mut LedgerWords, i: usize, at: usize)
+    requires { ⌜ (i < ticketLimit) × (at % placeSize ≡ 0) × (at < placeSize * ticketLimit) ⌝ }
+    ensures { λ _. ⌜ now (words .exit) ≡ putRow (now (words .entry)) (placeStart (at / placeSize)) (placeAt (now (words .entry)) i .row) ⌝ }
+{
+    let first = place_word(words, i, 0);
+    let second = window_word(words, i);
+    let third = place_word(words, i, BACK_WORD);
+    let fourth = place_word(words, i, TRAIL_WORD);
+    put_row(words, at, first, second, third, fourth);
 }

@@ -4,6 +4,7 @@ use crate::accounts::is_service;
 use definitions::Account;
 use definitions::Answer;
 use definitions::Error;
+use definitions::LAST_NUMBER;
 use definitions::LONGEST_RECORD;
 use definitions::Moment;
 use definitions::Origin;
@@ -163,7 +164,7 @@ pub(crate) fn check_last(moment: Moment, window: Window) -> Answer
         moment.clock < window.end,
         Error::KDC_ERR_NEVER_VALID,
         unless(
-            moment.count < TICKET_LIMIT,
+            both(moment.count < TICKET_LIMIT, moment.next <= LAST_NUMBER),
             Error::KDC_ERR_SVC_UNAVAILABLE,
             Answer::Accepted,
         ),

@@ -26,10 +26,10 @@ use Rattle.definitions.proofs.TicketRecords.{record-most}
 use Rattle.definitions.proofs.RoundTrip.{given-writable}
 use Rattle.definitions.specs.Edits.{Edit}
 use Rattle.definitions.specs.declared.decision.Decision.{Decision}
-use Rattle.definitions.specs.Answers.{edit as an-edit, request as a-request, lengthOf}
+use Rattle.definitions.specs.Answers.{edit as an-edit, request as a-request, clear as a-clearing, lengthOf}
 use Rattle.definitions.specs.Services.{Service, Outcome, perform}
 use Rattle.tickets.specs.declared.TicketsAnswer.{TicketsAnswer}
-use Rattle.tickets.specs.Calls.{EditCall, RequestCall, answerIn, requestAnswer}
+use Rattle.tickets.specs.Calls.{EditCall, RequestCall, ClearCall, answerIn, requestAnswer}
 
 never : (P : Type 0) (e : Error) (n : ℕ) → Unwritten e ≡ Length n → P
 never P e n h = let z : _≡_ {A = ℕ} 0 1 = cc in absurd (omega arith)
@@ -55,7 +55,7 @@ value-most s b r e a w k n h l =
 
 -- ---- An edit, in numbers
 pub edit-call : (w w' : List ℕ) (x : Edit) (r : Answer)
-    → ((l : List ℕ) → record { reply = record { answer = r; ticket = blankTicket; output = [] }; service = record { accounts = w'; ledger = l } } ≡ perform (record { accounts = w; ledger = l }) (an-edit x))
+    → ((l : List ℕ) → record { reply = record { answer = r; ticket = blankTicket; output = []; cleared = 0 }; service = record { accounts = w'; ledger = l } } ≡ perform (record { accounts = w; ledger = l }) (an-edit x))
     → (n : ℕ) → n ≡ answerNumber r → EditCall w x n w'
 edit-call w w' x r p n e =
     record { answered = λ l. e ∙ ap (λ (o : Outcome). answerNumber (o .reply .answer)) (p l); left = λ l. ap (λ (o : Outcome). o .service) (p l) }
@@ -66,7 +66,7 @@ pub granted-answer : (y : Answer) (t : Ticket) (n : ℕ) → n ≡ lengthOf y t 
 granted-answer y t n e h = rw (e, h)
 
 pub request-call : (s s' : Service) (bytes : List ℕ) (clock : ℕ) (o o' : List ℕ) (y : Answer) (t : Ticket)
-    → record { reply = record { answer = y; ticket = t; output = o' }; service = s' } ≡ perform s (a-request bytes clock o)
+    → record { reply = record { answer = y; ticket = t; output = o'; cleared = 0 }; service = s' } ≡ perform s (a-request bytes clock o)
     → (r : Answer) → y ≡ r → (x : TicketsAnswer) → x ≡ answerIn r t → RequestCall s bytes clock o x o' s'
 request-call s s' bytes clock o o' y t p r h x e =
     record {
@@ -74,3 +74,9 @@ request-call s s' bytes clock o o' y t p r h x e =
       laid = ap (λ (z : Outcome). z .reply .output) p;
       left = ap (λ (z : Outcome). z .service) p;
     }
+
+-- ---- A clearing, in numbers
+pub clear-call : (s s' : Service) (clock n : ℕ)
+    → record { reply = record { answer = Accepted; ticket = blankTicket; output = []; cleared = n }; service = s' } ≡ perform s (a-clearing clock) → ClearCall s clock n s'
+clear-call s s' clock n p =
+    record { answered = ap (λ (o : Outcome). o .reply .cleared) p; left = ap (λ (o : Outcome). o .service) p }

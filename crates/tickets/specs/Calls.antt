@@ -8,7 +8,7 @@ use Rattle.definitions.specs.Errors.{errorNumber, answerNumber}
 use Rattle.definitions.specs.TicketRecords.{recordOf}
 use Rattle.definitions.specs.Output.{writtenOf, outputOf}
 use Rattle.definitions.specs.Edits.{Edit}
-use Rattle.definitions.specs.Answers.{edit as an-edit, request as a-request, Reply}
+use Rattle.definitions.specs.Answers.{edit as an-edit, request as a-request, clear as a-clearing, Reply}
 use Rattle.definitions.specs.Services.{Service, perform}
 use Rattle.definitions.specs.declared.error.Error.{Error}
 use Rattle.definitions.specs.declared.error.Answer.{Answer}
@@ -102,6 +102,12 @@ pub record RequestCall (before : Service) (bytes : List ℕ) (clock : ℕ) (outp
   pub answered : answer ≡ requestAnswer (perform before (a-request bytes clock output) .reply)
   pub laid : written ≡ perform before (a-request bytes clock output) .reply .output
   pub left : after ≡ perform before (a-request bytes clock output) .service
+
+-- ---- A clearing of the service
+-- what a clearing promises a C caller: how many tickets the call took out, and the words that it leaves
+pub record ClearCall (before : Service) (clock : ℕ) (taken : ℕ) (after : Service) : Type 0 where
+  pub answered : taken ≡ perform before (a-clearing clock) .reply .cleared
+  pub left : after ≡ perform before (a-clearing clock) .service
 
 -- ---- A descent
 -- R7.4: no error and the steps, or 41

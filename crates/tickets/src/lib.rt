@@ -21,7 +21,7 @@ ghost use Rattle.definitions.specs.LedgerWords.{ticketsOf};
 ghost use Rattle.definitions.specs.Totals.{dayTotal};
 ghost use Rattle.definitions.specs.Descent.{descent, descended};
 ghost use Rattle.definitions.specs.Services.{freshService};
-ghost use Rattle.tickets.specs.Calls.{errorAnswer, writtenAnswer, rewriteAnswer, rewriteOutput, kindNumber, requestFields, fieldsAfter, EditCall, RequestCall, descentAnswer};
+ghost use Rattle.tickets.specs.Calls.{errorAnswer, writtenAnswer, rewriteAnswer, rewriteOutput, kindNumber, requestFields, fieldsAfter, EditCall, RequestCall, ClearCall, descentAnswer};
 
 // What a call answers: the error number, 0 where there is none, and a value, 0 beside an error.
 #[repr(C)]
@@ -173,6 +173,18 @@ pub extern "C" fn tickets_request(
         },
         Answer::Refused(error) => error_answer(error),
     }
+}
+
+// Clears out the tickets that have ended at a clock reading: how many it took out. The accounts stay.
+#[no_mangle]
+pub extern "C" fn tickets_clear(
+    accounts: &mut AccountWords,
+    ledger: &mut LedgerWords,
+    clock: u32,
+) -> u32
+    ensures { λ r. ⌜ ClearCall (record { accounts = now (accounts .entry); ledger = now (ledger .entry) }) clock r (record { accounts = now (accounts .exit); ledger = now (ledger .exit) }) ⌝ }
+{
+    ledger::clear(ledger, clock) as u32
 }
 
 // The steps from the ticket of a number to its initial ticket, or 41.

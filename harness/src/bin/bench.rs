@@ -16,8 +16,9 @@ mod sides;
 #[path = "bench/stage.rs"]
 mod stage;
 
-use cases::{Case, Group, LOOP};
+use cases::{Case, Group};
 use measure::{instructions, make_counted, repeat, times, Both, COUNT, ROUNDS};
+use std::collections::HashMap;
 use std::error::Error;
 use std::fmt::Write;
 use std::{env, fs};
@@ -45,6 +46,8 @@ struct Row {
     name: String,
     /// The row in Markdown.
     cells: String,
+    /// Whether it is the row of a loop.
+    is_loop: bool,
     /// The library's instructions over the second implementation's.
     ratio: f64,
 }
@@ -88,22 +91,26 @@ fn count_cells(counts: Both) -> String {
 fn row(case: &mut Case, counts: Both, timed: bool) -> Row {
     let times = if timed { time_cells(case) } else { String::new() };
     let cells = format!("| {} {times}{}", case.name, count_cells(counts));
-    Row { name: case.name.clone(), cells, ratio: counts.ratio() }
+    Row { name: case.name.clone(), cells, is_loop: case.is_loop(), ratio: counts.ratio() }
 }
 
-/// Checks every case, and measures it. The instructions of the loop around the calls, which is a case
-/// itself, are taken off those of the others.
+/// The counts of the loops, by the names of their cases.
+fn loops(groups: &mut [Group], counts: &[Both]) -> HashMap<String, Both> {
+    let loops = all(groups).zip(counts).filter(|(case, _)| case.is_loop());
+    loops.map(|(case, counts)| (case.name.clone(), *counts)).collect()
+}
+
+/// Checks every case, and measures it. The instructions of the loop around a call, which is a case
+/// itself, are taken off those of the call.
 fn tables(mut groups: Vec<Group>, timed: bool) -> Result<Vec<Table>, Box<dyn Error>> {
     all(&mut groups).for_each(|case| case.check());
     let counts = instructions(all(&mut groups).count())?;
-    let is_loop = |case: &Case| case.name == LOOP;
-    let at = all(&mut groups).position(|case| is_loop(case)).ok_or("the loop is no case")?;
-    let of_loop = counts[at];
+    let loops = loops(&mut groups, &counts);
     let mut counts = counts.into_iter();
     let table = |Group { heading, telling, mut cases }| {
         let measured = cases.iter_mut().zip(&mut counts).map(|(case, counts)| {
-            let counts = if is_loop(case) { counts } else { counts.less(of_loop) };
-            row(case, counts, timed)
+            let own = if case.is_loop() { counts } else { counts.less(loops[case.loop_name()]) };
+            row(case, own, timed)
         });
         Table { heading, telling, rows: measured.collect() }
     };
@@ -124,7 +131,7 @@ fn all_rows(tables: &[Table], head: &str) -> String {
 fn summary(tables: &[Table]) -> String {
     let mut text = String::from("library / second in instructions:\n");
     for Table { heading, rows, .. } in tables {
-        let ratios = || rows.iter().filter(|row| row.name != LOOP).map(|row| row.ratio);
+        let ratios = || rows.iter().filter(|row| !row.is_loop).map(|row| row.ratio);
         let (least, most) = (ratios().fold(f64::MAX, f64::min), ratios().fold(0.0, f64::max));
         let _ = writeln!(text, "  {heading}: {least:.2} to {most:.2}, in {} rows", rows.len());
     }

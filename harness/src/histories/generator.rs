@@ -7,7 +7,7 @@ use crate::accounts::{Account, BARRED, DISABLED, SERVICE, TRUSTED};
 use crate::decisions::{
     classic_route, resource_route, CNAME_IN_ADDL_TKT, FORWARDABLE, RESOURCE_BASED,
 };
-use crate::limits::{ACCOUNT_LIMIT, LAST_SECOND, LONGEST_RECORD};
+use crate::limits::{ACCOUNT_LIMIT, LAST_SECOND, LONGEST_RECORD, TICKET_LIMIT};
 use crate::random::Random;
 use crate::record::{Origin, Principal, Ticket};
 use crate::service::Service;
@@ -26,9 +26,10 @@ const KINDS: [u8; 12] = [1, 1, 2, 2, 3, 3, 4, 4, 4, 4, 4, 4];
 /// R4.2: the map bits that each kind needs, and those that it may have besides.
 const MAPS: [(u16, u16); 4] = [(0x41, 0x0A), (0x91, 0x0A), (0x51, 0x0A), (0xB3, 0x0C)];
 
-/// Lifetimes of accounts, each as often as it is given.
+/// Lifetimes of accounts, each as often as it is given: those of a day, and short ones.
 const LIFETIMES: [u32; 12] =
     [36_000, 36_000, 36_000, 36_000, 90_000, 90_000, 3_600, 600, 60, 1, 0, u32::MAX];
+const SHORT_LIFETIMES: [u32; 12] = [600, 600, 600, 600, 3_600, 3_600, 300, 60, 20, 1, 0, u32::MAX];
 
 /// Where a clock begins.
 const BEGINNINGS: [u32; 6] =
@@ -37,32 +38,41 @@ const BEGINNINGS: [u32; 6] =
 /// The longest output of a request.
 const LONGEST_OUTPUT: usize = 64;
 
+/// How many of the tickets that were taken out last are presented still.
+const REMEMBERED: usize = 64;
+
 /// What a history is like.
 struct Style {
     /// The accounts in use are those below this number.
     accounts: usize,
     /// One call in so many is an edit.
     edits: usize,
+    /// One of the others in so many is a clearing.
+    clearings: usize,
     /// One choice in so many is odd.
     odd: usize,
     /// The clock goes on by less than this at each call.
     step: usize,
     /// How many calls there are after the first edits.
     calls: usize,
+    /// The lifetimes of accounts.
+    lifetimes: [u32; 12],
     /// Whether accounts are mostly services that send to and receive from each other.
     open: bool,
 }
 
 impl Style {
-    /// A style; one in five is long enough to fill the ledger.
+    /// A style; one in four is long enough to fill the ledger, and to go on when it is cleared.
     fn new(random: &mut Random) -> Self {
-        let long = random.once_in(5);
+        let long = random.once_in(4);
         Self {
             accounts: random.pick(&[3, 5, 8, 16, ACCOUNT_LIMIT]),
             edits: if long { random.pick(&[20, 60]) } else { random.pick(&[3, 6, 12, 40]) },
+            clearings: if long { 10 } else { random.pick(&[5, 10, 40]) },
             odd: if long { random.pick(&[40, 120]) } else { random.pick(&[6, 15, 40]) },
             step: random.pick(&[1, 2, 10, 100]),
-            calls: if long { 800 + random.below(500) } else { 30 + random.below(300) },
+            calls: if long { 800 + random.below(700) } else { 30 + random.below(300) },
+            lifetimes: if random.once_in(3) { SHORT_LIFETIMES } else { LIFETIMES },
             open: long || !random.once_in(3),
         }
     }
@@ -74,6 +84,8 @@ struct Generator {
     style: Style,
     /// The second implementation's service after the calls made so far.
     service: Service,
+    /// The tickets that clearings took out last.
+    cleared: Vec<Ticket>,
     /// The clock, from which single readings may stray.
     now: u32,
     /// The calls made so far.
@@ -86,16 +98,19 @@ pub fn generate(seed: u64) -> History {
     let style = Style::new(&mut random);
     let now = random.pick(&BEGINNINGS);
     let service = Service::fresh();
-    let mut generator = Generator { random, style, service, now, calls: Vec::new() };
-    if !generator.random.once_in(3) {
+    let (cleared, calls) = (Vec::new(), Vec::new());
+    let mut generator = Generator { random, style, service, cleared, now, calls };
+    if generator.random.once_in(2) {
         generator.first_edits();
         generator.go_on(generator.style.calls);
         return History { seed, start: None, calls: generator.calls };
     }
     let start = generator.other_start();
     generator.service = words::service(&start.accounts, &start.ledger);
+    generator.cleared.clear();
     generator.calls.clear();
     generator.style.odd = generator.style.odd.min(12);
+    generator.style.clearings = generator.random.pick(&[10, 40, 100]);
     generator.go_on(generator.style.calls.min(250));
     History { seed, start: Some(start), calls: generator.calls }
 }
@@ -126,22 +141,40 @@ impl Generator {
     /// Makes so many calls more.
     fn go_on(&mut self, calls: usize) {
         for _ in 0..calls {
-            let call =
-                if self.random.once_in(self.style.edits) { self.edit() } else { self.request() };
+            let call = if self.random.once_in(self.style.edits) {
+                self.edit()
+            } else if self.random.once_in(self.style.clearings) {
+                self.clearing()
+            } else {
+                self.request()
+            };
             self.make(call);
         }
     }
 
     /// Makes a call of the second implementation, and notes it.
     fn make(&mut self, call: Call) {
-        if let Some(edit) = edit_of(&call) {
-            // An edit that is refused changes nothing.
-            let _ = self.service.edit(&edit);
-        } else if let Call::Request { request, clock, output } = &call {
-            // So it is with a request.
-            let _ = self.service.request(request, *clock, &mut [0; LONGEST_OUTPUT][..*output]);
+        match &call {
+            Call::Edit { .. } => {
+                // An edit that is refused changes nothing.
+                let _ = self.service.edit(&edit_of(&call).expect("an edit"));
+            }
+            Call::Request { request, clock, output } => {
+                // So it is with a request.
+                let _ = self.service.request(request, *clock, &mut [0; LONGEST_OUTPUT][..*output]);
+            }
+            Call::Clear { clock } => self.clear(*clock),
         }
         self.calls.push(call);
+    }
+
+    /// Makes a clearing, and remembers what it took out.
+    fn clear(&mut self, clock: u32) {
+        let held = self.service.held().to_vec();
+        self.service.clear(clock);
+        self.cleared.extend(held.iter().filter(|ticket| ticket.end <= clock));
+        let forgotten = self.cleared.len().saturating_sub(REMEMBERED);
+        self.cleared.drain(..forgotten);
     }
 
     /// Whether this choice is an odd one.
@@ -182,6 +215,41 @@ impl Generator {
         }
     }
 
+    // ---- Clearings.
+
+    /// A clearing, mostly at the end of a held ticket or a second beside it.
+    fn clearing(&mut self) -> Call {
+        let mut ends: Vec<u32> = self.service.held().iter().map(|ticket| ticket.end).collect();
+        ends.sort_unstable();
+        let some = self.random.word() as u32;
+        let clock = if self.odd() {
+            self.random.pick(&[0, some, LAST_SECOND])
+        } else if ends.is_empty() {
+            self.now
+        } else if ends.len() == TICKET_LIMIT {
+            self.clock_of_a_full_ledger(&ends)
+        } else {
+            self.clock_at_an_end(&ends)
+        };
+        Call::Clear { clock }
+    }
+
+    /// A clock reading at which none, some or all of these ends are reached.
+    fn clock_of_a_full_ledger(&mut self, ends: &[u32]) -> u32 {
+        let (none, all) = (ends[0].saturating_sub(1), ends[ends.len() - 1]);
+        let some = self.random.pick(ends);
+        self.random.pick(&[none, none, none, some, some, some, all, all])
+    }
+
+    /// A clock reading at one of these ends or beside it, mostly the first, so that the ledger fills
+    /// all the same; or the time now.
+    fn clock_at_an_end(&mut self, ends: &[u32]) -> u32 {
+        let any = self.random.below(ends.len());
+        let end = ends[self.random.pick(&[0, 0, 0, 0, any / 8])];
+        let (before, after) = (end.saturating_sub(1), end.saturating_add(1));
+        self.random.pick(&[before, before, end, end, after, self.now])
+    }
+
     // ---- Edits.
 
     /// A set of accounts.
@@ -220,7 +288,7 @@ impl Generator {
             flags: self.flags(),
             send: self.set(),
             receive: self.set(),
-            lifetime: self.random.pick(&LIFETIMES),
+            lifetime: self.random.pick(&self.style.lifetimes),
         }
     }
 
@@ -253,7 +321,7 @@ impl Generator {
             7 => account.receive ^= 1 << self.number(),
             8 => account.send = self.set(),
             9 => account.receive = self.set(),
-            10 => account.lifetime = self.random.pick(&LIFETIMES),
+            10 => account.lifetime = self.random.pick(&self.style.lifetimes),
             _ => account.flags = self.flags() as u8,
         }
         let Account { flags, send, receive, lifetime, .. } = account;
@@ -393,9 +461,12 @@ impl Generator {
         record(&ticket).unwrap_or_else(|| odd::nearest_record(&ticket))
     }
 
-    /// A ticket of any kind, in place of one that fits.
+    /// A ticket of any kind, in place of one that fits; half the time one that was taken out.
     fn any_ticket(&mut self) -> Option<Ticket> {
-        self.ticket_with(|_, _| true)
+        if self.cleared.is_empty() || self.random.once_in(2) {
+            return self.ticket_with(|_, _| true);
+        }
+        Some(self.random.pick(&self.cleared))
     }
 
     /// A TGT whose client passes the test, mostly valid and of an enabled client.

@@ -2,12 +2,14 @@
 
 use crate::library;
 use crate::limits::{
-    ACCOUNTS_SIZE, ACCOUNT_LIMIT, LEDGER_SIZE, NAME_LIMIT, PLACE_SIZE, ROW_SIZE, TICKET_LIMIT,
-    TRAIL_LIMIT,
+    ACCOUNTS_SIZE, ACCOUNT_LIMIT, LAST_NUMBER, LAST_SECOND, LEDGER_SIZE, NAME_LIMIT, PLACE_SIZE,
+    ROW_SIZE, TICKET_LIMIT, TRAIL_LIMIT,
 };
 use crate::random::Random;
 use crate::service::Service;
-use crate::words::{number, place_at, put_number, row_at, store_account, store_ticket};
+use crate::words::{
+    number, place_at, put_number, row_at, store_account, store_ticket, COUNT_AT, NEXT_AT,
+};
 
 /// A time at which many of the invented tickets are valid.
 pub const NOW: u32 = 1_000;
@@ -37,10 +39,23 @@ pub fn words(random: &mut Random) -> Box<library::Service> {
         2 => chain(random, &mut words),
         _ => plausible(random, &mut words),
     }
-    if random.once_in(2) {
-        words.ledger[0] = random.below(TICKET_LIMIT) as u64;
+    if random.once_in(3) {
+        words.ledger[COUNT_AT] = random.below(TICKET_LIMIT) as u64;
     }
+    words.ledger[NEXT_AT] = next_number(random);
     words
+}
+
+/// A next number: small, so that it may be held already, near the last that is given, or past it.
+fn next_number(random: &mut Random) -> u64 {
+    let last = u64::from(LAST_NUMBER);
+    let small = random.below(TICKET_LIMIT) as u64;
+    match random.below(8) {
+        0..=3 => small,
+        4 => random.below(last as usize) as u64,
+        5 | 6 => last - 5 + random.below(11) as u64,
+        _ => random.pick(&[last + 1, 1 << 32, (1 << 32) + small, 1 << 63, u64::MAX]),
+    }
 }
 
 /// Plausible words whose tickets mostly go back to the one before them.
@@ -78,12 +93,18 @@ fn plausible(random: &mut Random, words: &mut library::Service) {
     }
     let numbers = random.pick(&[8, 64, TICKET_LIMIT, TICKET_LIMIT]);
     let accounts = random.pick(&[4, 8, 16, ACCOUNT_LIMIT]);
-    let counts = [TICKETS - 1, TICKETS, TICKETS + 1, 1_000, 1 << 32, u64::MAX];
-    words.ledger[0] = random.pick(&counts);
+    let counts =
+        [TICKETS - 1, TICKETS, TICKETS + 1, TICKETS + 256, 1_000, 1 << 16, 1 << 32, u64::MAX];
+    // One ticket in so many, or none, ends at 0 or at the last second.
+    let edges = random.pick(&[64, usize::MAX]);
+    words.ledger[COUNT_AT] = random.pick(&counts);
     for place in 0..TICKET_LIMIT {
         put_number(&mut words.ledger, place, random.below(numbers) as u16);
         let place = &mut words.ledger[place_at(place)..][..PLACE_SIZE];
         plausible_ticket(random, numbers, accounts, place);
+        if random.once_in(edges) {
+            place[1] = u64::from(place[1] as u32) | random.pick(&[0, LAST_SECOND.into()]) << 32;
+        }
     }
 }
 
@@ -95,6 +116,7 @@ fn plausible_ticket(random: &mut Random, numbers: usize, accounts: usize, words:
     let mut account = || if number(16) == 0 { beyond + number(4) } else { number(accounts) };
     let (client, service) = (account(), account());
     let (start, end) = (number(2 * NOW as usize), number(4 * NOW as usize));
+    let spare = if number(8) == 0 { number(1 << 32) } else { 0 };
     let tag = random.pick(&[0, 0, 0, 1, 2, 3, 3, 4, 15]);
     let service = if tag == 0 && !random.once_in(8) { 0 } else { service };
     let mark = random.pick(&[0, 0, 1, 1, 2, 15]);
@@ -104,12 +126,12 @@ fn plausible_ticket(random: &mut Random, numbers: usize, accounts: usize, words:
     let flags = random.pick(&[0x4000_0000, 0x4000_0000, 0x0040_0000, 0, 0xFFFF_FFFF]);
     words[0] = flags | client << 32 | service << 40 | hops << 48 | tag << 56 | mark << 60;
     words[1] = start | end << 32;
-    words[2] = tgt << 32 | evidence << 48;
+    words[2] = tgt << 32 | evidence << 48 | spare;
     words[3] =
         random.word() & 0x3F3F_3F3F_3F3F_3F3F & 1u64.checked_shl(kept).map_or(!0, |bit| bit - 1);
 }
 
-/// The words of a service, with some of them changed.
+/// The words of a service, with some of them changed, and its next number or some other.
 pub fn changed(random: &mut Random, service: &Service) -> Box<library::Service> {
     let mut words = Box::new(library::Service::filled(0));
     for (number, row) in service.table.rows.iter().enumerate() {
@@ -118,6 +140,7 @@ pub fn changed(random: &mut Random, service: &Service) -> Box<library::Service> 
         }
     }
     service.held().iter().for_each(|ticket| store_ticket(&mut words.ledger, ticket));
+    words.ledger[NEXT_AT] = if random.once_in(3) { next_number(random) } else { service.next };
     let count = service.held().len().max(1);
     if random.once_in(2) {
         change_half(random, &mut words, count);
@@ -128,10 +151,10 @@ pub fn changed(random: &mut Random, service: &Service) -> Box<library::Service> 
     words
 }
 
-/// The same change of every other ticket: its mark, FORWARDABLE, its client or service to one beyond
-/// the limit, start for end, or its tag.
+/// The same change of every other ticket: its mark, twice as often as any other, FORWARDABLE, its
+/// client or service to one beyond the limit, start for end, or its tag.
 fn change_half(random: &mut Random, words: &mut library::Service, count: usize) {
-    let kind = random.below(6);
+    let kind = random.pick(&[0, 0, 1, 2, 3, 4, 5]);
     for place in words.ledger[place_at(0)..].chunks_exact_mut(PLACE_SIZE).take(count) {
         match kind {
             _ if random.once_in(2) => {}
@@ -164,7 +187,7 @@ fn change(random: &mut Random, words: &mut library::Service, count: usize) {
             put_number(&mut words.ledger, held, number);
             words.ledger.copy_within(place_at(other)..place_at(other) + PLACE_SIZE, place);
         }
-        6 => words.ledger[0] = stored_count(random, count),
+        6 => words.ledger[COUNT_AT] = stored_count(random, count),
         7 => put_byte(random, &mut words.accounts[account + 3], &[0, 1, 2, 3]),
         8 => put_byte(random, &mut words.ledger[place + 2], &[0, 1, 2, 3, 4, 5, 6, 7]),
         9 => put_byte(random, &mut words.ledger[place], &[4, 5]),

@@ -1,22 +1,27 @@
 //! Replays a history on the compiled library and on the second implementation, and compares them.
 
-use super::draft::{record, TicketText};
+use super::draft::TicketText;
+use super::tally::Met;
 use super::{edit_of, generate, shrink, Call, Hex, History, Tally};
-use crate::accounts::Edit;
+use crate::accounts::{Edit, Table};
 use crate::book::{self, Book};
 use crate::calls::{self, Answer};
 use crate::library;
+use crate::past::Past;
 use crate::random::Random;
-use crate::record::{Principal, Ticket};
+use crate::record::{read_ticket, Principal, Ticket};
 use crate::service::Service;
-use crate::words;
+use crate::words::{self, COUNT_AT, NEXT_AT};
 use std::fmt::Debug;
 
 /// The bytes before and after an output, which no call may touch.
 const MARGIN: usize = 16;
 
-/// While the ledger holds no more tickets than this, the states are compared in full after each
-/// call; beyond it after so many calls as `RHYTHM` says.
+/// How many numbers of tickets that were taken out have their descents compared each time.
+const GONE: usize = 4;
+
+/// While the ledger holds no more tickets than this, the descents are compared after each call; beyond
+/// it after so many calls as `RHYTHM` says.
 const FEW: usize = 64;
 const RHYTHM: usize = 16;
 
@@ -30,15 +35,17 @@ pub struct Pair {
     second: Service,
     /// The notes of a history from a fresh service.
     book: Option<Book>,
-    /// The records that were granted, in order.
-    records: Vec<Vec<u8>>,
+    /// The grants, by the library's records, and the clearings.
+    past: Past,
+    /// The places below this one were held when a clearing took some out.
+    freed: usize,
     /// What outputs hold before a call.
     random: Random,
 }
 
 /// What a call did.
 pub struct Outcome {
-    /// The error number, 0 for a grant or a stored edit.
+    /// The error number, 0 for a grant, a stored edit or a clearing.
     pub error: u32,
     /// The ticket that was granted.
     pub granted: Option<Ticket>,
@@ -73,14 +80,51 @@ fn same_words(what: &str, library: &[u64], expected: &[u64]) -> Result<(), Strin
     Err(format!("{what}, word {at}: library {word:#018x}, expected {other:#018x}"))
 }
 
+/// An error that names the first account that differs.
+fn same_accounts(library: &Table, second: &Table) -> Result<(), String> {
+    let mut rows = library.rows.iter().zip(&second.rows).enumerate();
+    match rows.find(|(_, (row, other))| row != other) {
+        None => Ok(()),
+        Some((number, (row, other))) => same(&format!("account {number}"), row, other),
+    }
+}
+
+/// An error that names the first ticket that differs from the one held.
+fn same_tickets<'a>(
+    what: &str,
+    held: &[Ticket],
+    others: impl Iterator<Item = &'a Ticket>,
+) -> Result<(), String> {
+    let others: Vec<&Ticket> = others.collect();
+    if held.len() != others.len() {
+        return Err(format!("{} tickets held, {} {what}", held.len(), others.len()));
+    }
+    match held.iter().zip(others).find(|(one, other)| one != other) {
+        None => Ok(()),
+        Some((one, other)) => {
+            Err(format!("held {}, {what} {}", TicketText(one), TicketText(other)))
+        }
+    }
+}
+
+/// An error with these words, unless the condition holds.
+fn ensure(condition: bool, what: &str) -> Result<(), String> {
+    if condition {
+        Ok(())
+    } else {
+        Err(what.to_string())
+    }
+}
+
 impl Pair {
     /// Both sides at the beginning of a history.
     pub fn new(history: &History) -> Self {
         let library = Box::new(history.first());
         let second = words::service(&library.accounts, &library.ledger);
         let book = history.start.is_none().then(Book::new);
+        let past = Past::new(&second.ledger);
         let random = Random(history.seed);
-        Self { words: library.clone(), library, second, book, records: Vec::new(), random }
+        Self { words: library.clone(), library, second, book, past, freed: 0, random }
     }
 
     /// Makes a call on both sides, and compares the answers, the outputs and all words.
@@ -89,12 +133,16 @@ impl Pair {
             Call::Edit { .. } => self.edit(&edit_of(call).expect("an edit"), tally)?,
             Call::Request { request, clock, output } => {
                 let outcome = self.request(request, *clock, *output)?;
-                tally.requested(&self.second, request, *clock, outcome.error);
+                let Self { past, freed, book, .. } = self;
+                let met = Met { past, freed: *freed, fresh: book.is_some() };
+                tally.requested(&self.second, &met, request, *clock, outcome.error);
                 outcome
             }
+            Call::Clear { clock } => self.clear(*clock, tally)?,
         };
         same_words("the accounts", &self.library.accounts, &self.words.accounts)?;
         same_words("the ledger", &self.library.ledger, &self.words.ledger)?;
+        self.check_notes(call, &outcome)?;
         Ok(outcome)
     }
 
@@ -128,7 +176,8 @@ impl Pair {
         }
         let ticket = *self.second.ledger.last().ok_or("a grant without a ticket")?;
         words::store_ticket(&mut self.words.ledger, &ticket);
-        self.records.push(by_library[MARGIN..][..answer.value as usize].to_vec());
+        let record = &by_library[MARGIN..][..answer.value as usize];
+        self.past.grant(read_ticket(record).map_err(|_| "a granted record does not read")?);
         Ok(Outcome { error: 0, granted: Some(ticket) })
     }
 
@@ -140,58 +189,138 @@ impl Pair {
         }
     }
 
-    /// Compares the tables, the ledgers, the descents and the day totals.
-    pub fn compare(&mut self, tally: &mut Tally) -> Result<(), String> {
-        let decoded = words::service(&self.library.accounts, &self.library.ledger);
-        for (number, rows) in decoded.table.rows.iter().zip(&self.second.table.rows).enumerate() {
-            same(&format!("account {number}"), rows.0, rows.1)?;
+    /// Makes a clearing on both sides, and of the book where there is one.
+    fn clear(&mut self, clock: u32, tally: &mut Tally) -> Result<Outcome, String> {
+        let held = self.second.held().to_vec();
+        let taken = self.library.clear(clock);
+        same("how many were taken out", taken, calls::clear(&mut self.second, clock))?;
+        if let Some(book) = &mut self.book {
+            same("how many notes were struck out", taken, book.clear(clock))?;
         }
-        same("the count of tickets", decoded.ledger.len(), self.second.ledger.len())?;
-        for (one, other) in decoded.ledger.iter().zip(&self.second.ledger) {
-            same("a ledger ticket", one, other)?;
+        tally.cleared(&held, self.words.ledger[COUNT_AT], clock, taken);
+        words::store_clearing(&mut self.words.ledger, clock);
+        self.past.clear(clock);
+        if taken > 0 {
+            self.freed = self.freed.max(held.len());
         }
-        same("the day total", self.library.day_total(), self.second.day_total())?;
-        self.compare_descents(tally)
+        Ok(Outcome { error: 0, granted: None })
     }
 
-    /// Compares the descents of all numbers held, and of some others.
-    fn compare_descents(&mut self, tally: &mut Tally) -> Result<(), String> {
-        let count = self.second.ledger.len() as u32;
-        let some = self.random.word() as u16;
-        let others = [count, count + 1, some.into(), 65_535, 65_536, 65_536 + count / 2, u32::MAX];
-        let numbers = self.second.ledger.iter().map(|ticket| u32::from(ticket.number));
-        for number in numbers.chain(others) {
-            let answer = self.library.descent(number);
-            let what = format!("the descent of {number}");
-            same(&what, answer, calls::descent(&self.second, number))?;
-            tally.descends((answer.error == 0).then_some(answer.value));
-        }
-        Ok(())
-    }
-
-    /// R10.3, where the service was fresh: the ledger is the granted records in order, and the descent
-    /// of every ticket is lawful.
-    pub fn finish(&self) -> Result<(), String> {
-        let Some(book) = &self.book else {
-            return Ok(());
-        };
-        let tickets = words::tickets(&self.library.ledger);
-        same("the count of granted tickets", tickets.len(), self.records.len())?;
-        for (ticket, granted) in tickets.iter().zip(&self.records) {
-            if record(ticket).as_ref() != Some(granted) {
-                return Err(format!("granted {}, held {}", Hex(granted), TicketText(ticket)));
+    /// R9.1 to R9.8, where the service was fresh: the descent of a new ticket, and of every ticket
+    /// that a clearing left, is lawful, with as many steps as the library counts.
+    fn check_notes(&self, call: &Call, outcome: &Outcome) -> Result<(), String> {
+        match (&self.book, call) {
+            (Some(book), Call::Clear { .. }) => self.check_notes_from(book, 0),
+            (Some(book), _) if outcome.granted.is_some() => {
+                self.check_notes_from(book, book.notes.len() - 1)
             }
+            _ => Ok(()),
         }
-        book::lawful(&book.notes)?;
-        book::descents(&book.notes, |number| match self.library.descent(number) {
+    }
+
+    /// The same of the notes from this one on.
+    fn check_notes_from(&self, book: &Book, from: usize) -> Result<(), String> {
+        book::lawful(&book.notes, from)?;
+        book::descents(&book.notes, from, |number| match self.library.descent(number) {
             Answer { error: 0, value } => Ok(value),
             Answer { error, .. } => Err(error),
         })
     }
+
+    /// Compares the tables, the ledgers, the next numbers, the day totals and the book. Answers the
+    /// numbers of tickets that are gone.
+    pub fn compare(&self) -> Result<Vec<u16>, String> {
+        let decoded = words::service(&self.library.accounts, &self.library.ledger);
+        same_accounts(&decoded.table, &self.second.table)?;
+        same_tickets("by the second", &decoded.ledger, self.second.ledger.iter())?;
+        same("the next number", decoded.next, self.second.next)?;
+        same("the day total", self.library.day_total(), self.second.day_total())?;
+        self.compare_book(&decoded)?;
+        self.compare_past(&decoded)
+    }
+
+    /// R10.3, where the service was fresh: the ledger is the book's notes, and the next number the
+    /// book's.
+    fn compare_book(&self, decoded: &Service) -> Result<(), String> {
+        let Some(book) = &self.book else {
+            return Ok(());
+        };
+        same("the book's next number", decoded.next, book.next)?;
+        same_tickets("noted", &decoded.ledger, book.notes.iter().map(|note| &note.ticket))
+    }
+
+    /// R10.3: the ledger is the tickets granted, in order, but for those whose end a later clearing
+    /// reached; from a fresh service their numbers are 0 and on. Answers the numbers of those that are
+    /// gone.
+    fn compare_past(&self, decoded: &Service) -> Result<Vec<u16>, String> {
+        let past = self.past.tickets();
+        if self.book.is_some() {
+            let numbers = past.iter().map(|(ticket, _)| u32::from(ticket.number));
+            let in_order = numbers.eq(0..past.len() as u32);
+            ensure(in_order, "the numbers granted are not 0 and on")?;
+        }
+        let standing = past.iter().filter(|(_, stands)| *stands).map(|(ticket, _)| ticket);
+        same_tickets("granted and not cleared", &decoded.ledger, standing)?;
+        let gone = past.iter().filter(|(_, stands)| !stands);
+        Ok(gone.map(|(ticket, _)| ticket.number).collect())
+    }
+
+    /// Compares the descents of all numbers held, of some that are gone, and of some others.
+    pub fn compare_descents(&mut self, gone: &[u16], tally: &mut Tally) -> Result<(), String> {
+        let next = self.library.ledger[NEXT_AT] as u32;
+        let some = self.random.word() as u16;
+        let others =
+            [next, next.wrapping_add(1), some.into(), 65_535, 65_536, 65_536 + next / 2, u32::MAX];
+        let held = self.second.ledger.iter().map(|ticket| u32::from(ticket.number));
+        for number in held.chain(others) {
+            let steps = self.compare_descent(number)?;
+            tally.descends(steps);
+        }
+        for _ in 0..GONE.min(gone.len()) {
+            let number = self.random.pick(gone);
+            let steps = self.compare_descent(number.into())?;
+            tally.descends_from_gone(steps);
+            let is_41 = steps.is_none() || self.book.is_none();
+            ensure(is_41, "a number that is gone has a descent")?;
+        }
+        Ok(())
+    }
+
+    /// Compares the descent of a number, and answers its steps, none for 41.
+    fn compare_descent(&self, number: u32) -> Result<Option<u32>, String> {
+        let answer = self.library.descent(number);
+        let second = calls::descent(&self.second, number);
+        if answer != second {
+            return Err(format!("the descent of {number}: library {answer:?}, second {second:?}"));
+        }
+        Ok((answer.error == 0).then_some(answer.value))
+    }
+
+    /// Compares the states after the call of this place in the history: all but the descents each time
+    /// where the rhythm is no longer than `RHYTHM`; all, where it is its turn, and with few tickets
+    /// each time too.
+    fn look(&mut self, at: usize, rhythm: usize, tally: &mut Tally) -> Result<(), String> {
+        let (often, turn) = (rhythm <= RHYTHM, (at + 1).is_multiple_of(rhythm));
+        if !often && !turn {
+            return Ok(());
+        }
+        let gone = self.compare()?;
+        if turn || self.second.ledger.len() <= FEW {
+            self.compare_descents(&gone, tally)?;
+        }
+        Ok(())
+    }
+
+    /// Compares the states after the last call, and looks once more at all notes that stand.
+    fn finish(&mut self, tally: &mut Tally) -> Result<(), String> {
+        let gone = self.compare()?;
+        self.compare_descents(&gone, tally)?;
+        self.book.as_ref().map_or(Ok(()), |book| self.check_notes_from(book, 0))
+    }
 }
 
-/// Replays a history; the states are compared in full every `rhythm` calls, and at the end. With few
-/// tickets, and a rhythm that is no longer than `RHYTHM`, that is after each call.
+/// Replays a history; the states are compared in full every `rhythm` calls, as `Pair::look` says, and
+/// at the end.
 pub fn replay(history: &History, rhythm: usize, tally: &mut Tally) -> Result<(), Failure> {
     let mut pair = Pair::new(history);
     let mut granted = Vec::new();
@@ -199,22 +328,18 @@ pub fn replay(history: &History, rhythm: usize, tally: &mut Tally) -> Result<(),
     for (at, call) in history.calls.iter().enumerate() {
         let step = pair.step(call, tally).and_then(|outcome| {
             granted.push(outcome.granted.map(|ticket| ticket.number));
-            let few = rhythm <= RHYTHM && pair.second.ledger.len() <= FEW;
-            if few || (at + 1) % rhythm == 0 {
-                pair.compare(tally)?;
-            }
-            Ok(())
+            pair.look(at, rhythm, tally)
         });
         if let Err(what) = step {
             return Err(Failure { at, what, granted });
         }
     }
-    let end = pair.compare(tally).and_then(|()| pair.finish());
-    end.map_err(|what| Failure { at: history.calls.len().saturating_sub(1), what, granted })
+    let last = history.calls.len().saturating_sub(1);
+    pair.finish(tally).map_err(|what| Failure { at: last, what, granted })
 }
 
 /// Replays the histories of the seeds from this one on, so many calls at least; in the first of them,
-/// `in_full` calls at least, the states are compared in full after each call. On a difference the
+/// `in_full` calls at least, the descents are compared after each call too. On a difference the
 /// answer is the seed and the shortest history found that still shows one. A call that is counted as
 /// something that the tally does not expect is an error too.
 pub fn run(seed: u64, calls: u64, in_full: u64) -> Result<Tally, String> {
@@ -223,11 +348,8 @@ pub fn run(seed: u64, calls: u64, in_full: u64) -> Result<Tally, String> {
         if tally.calls >= calls {
             break;
         }
-        let history = generate(seed);
         let rhythm = if tally.calls < in_full { 1 } else { RHYTHM };
-        if let Err(failure) = replay(&history, rhythm, &mut tally) {
-            return Err(shrink::report(history, failure));
-        }
+        run_one(generate(seed), rhythm, &mut tally)?;
     }
     let unexpected = tally.unexpected();
     if unexpected.is_empty() {
@@ -235,4 +357,9 @@ pub fn run(seed: u64, calls: u64, in_full: u64) -> Result<Tally, String> {
     } else {
         Err(format!("counted outside the tally's list: {unexpected:?}"))
     }
+}
+
+/// Replays one history; the answer is as that of `run`.
+pub fn run_one(history: History, rhythm: usize, tally: &mut Tally) -> Result<(), String> {
+    replay(&history, rhythm, tally).map_err(|failure| shrink::report(history, failure))
 }

@@ -1,12 +1,15 @@
-//! How often each answer was reached, by the check that gave it (R6.2, R2.9), and each kind of grant.
+//! How often each answer was reached, by the check that gave it (R6.2, R2.9), each kind of grant, and
+//! each kind of clearing (R7.6).
 
 use super::draft::presented;
 use super::History;
 use crate::accounts::{Edit, ALL_FLAGS};
 use crate::decisions::{classic_route, has_cname_in_addl_tkt, is_forwardable, resource_route};
-use crate::limits::{ACCOUNT_LIMIT, LAST_SECOND, TICKET_LIMIT, TRAIL_LIMIT};
+use crate::limits::{ACCOUNT_LIMIT, LAST_NUMBER, LAST_SECOND, TICKET_LIMIT, TRAIL_LIMIT};
+use crate::past::Past;
 use crate::record::{read_request, Kind, Origin, Principal, Request, Ticket};
 use crate::service::Service;
+use crate::words::COUNT_AT;
 use std::collections::BTreeMap;
 use std::fmt;
 
@@ -17,9 +20,10 @@ const EXPECTED: &[(&str, &[&str])] = &[
     ("output", &["52"]),
     ("TGT", &["41 not held", "41 unequal", "35 not initial", "33", "32", "18"]),
     ("evidence", &["41 not held", "41 unequal", "33", "32", "26 no service", "26 another", "18"]),
+    ("41 cleared", &["TGT", "TGT, earlier clock", "evidence", "evidence, earlier clock"]),
     ("service", &["7 unknown", "7 disabled", "7 flag 8", "7 Service 1"]),
     ("user", &["6", "18"]),
-    ("last", &["13 option", "13 route", "61", "11", "29"]),
+    ("last", &["13 option", "13 route", "61", "11", "29 full", "29 no number", "29 both"]),
     ("initial", &["FORWARDABLE", "mark", "neither"]),
     ("direct", &["FORWARDABLE", "mark", "neither"]),
     ("S4U2self", &["FORWARDABLE", "mark", "neither"]),
@@ -29,12 +33,20 @@ const EXPECTED: &[(&str, &[&str])] = &[
     ("eighth hop", &["classic", "resource", "both"]),
     ("trail", &["1", "2", "3", "4", "5", "6", "7", "8"]),
     ("end by", &["lifetime", "last second", "TGT", "evidence", "till"]),
+    ("number", &["below 512", "512 and above"]),
+    ("other words", &["number below 512", "512 and above", "65535", "held already"]),
+    ("place", &["new", "set free"]),
     ("granted at", &["start", "end - 1", "0"]),
     ("refused at", &["start - 1", "end", "0", "last second"]),
     ("no account", &["TGT 18", "evidence 26", "evidence 18"]),
     ("letter case", &["as set", "other"]),
+    ("clearing", &["none", "some", "all", "nothing held"]),
+    ("above limit", &["none", "some", "all"]),
+    ("cleared at", &["end - 1", "end", "end + 1", "0", "0, some", "last second"]),
     ("start", &["fresh", "other words", "count above limit", "number twice", "name twice"]),
+    ("next number", &["not held", "held", "near the last", "none left"]),
     ("descent", &["0", "1", "2", "3", "4", "5", "6", "7", "8", "9", "more", "41"]),
+    ("cleared from", &["41", "number of another"]),
 ];
 
 /// How often each of them has to be reached.
@@ -48,10 +60,20 @@ fn expected() -> impl Iterator<Item = (&'static str, &'static str)> {
     EXPECTED.iter().flat_map(|(group, names)| names.iter().map(move |name| (*group, *name)))
 }
 
+/// What a request met besides the service.
+pub(super) struct Met<'a> {
+    /// The grants and the clearings before it.
+    pub past: &'a Past,
+    /// The places below this one were held when a clearing took some out.
+    pub freed: usize,
+    /// Whether the history began with a fresh service.
+    pub fresh: bool,
+}
+
 /// The counts.
 #[derive(Default)]
 pub struct Tally {
-    /// Edits and requests.
+    /// Edits, requests and clearings.
     pub calls: u64,
     /// Grants and stored edits among them.
     pub granted: u64,
@@ -91,9 +113,10 @@ impl Tally {
             return self.add("start", "fresh");
         };
         self.add("start", "other words");
-        if words.ledger[0] > TICKET_LIMIT as u64 {
+        if words.ledger[COUNT_AT] > TICKET_LIMIT as u64 {
             self.add("start", "count above limit");
         }
+        self.add("next number", next_number(service));
         let is_first = |ticket: &Ticket| {
             service.first_held(ticket.number).is_some_and(|first| std::ptr::eq(first, ticket))
         };
@@ -105,6 +128,11 @@ impl Tally {
         if names.any(|(number, name)| service.table.find_name(name) != Some(number)) {
             self.add("start", "name twice");
         }
+    }
+
+    /// The descent of a ticket that is gone was answered.
+    pub(super) fn descends_from_gone(&mut self, steps: Option<u32>) {
+        self.add("cleared from", if steps.is_none() { "41" } else { "number of another" });
     }
 
     /// A descent call was answered.
@@ -131,15 +159,42 @@ impl Tally {
         self.add("edits", name);
     }
 
+    /// A clearing was answered: how many of these tickets it took out, where this count was stored.
+    pub(super) fn cleared(&mut self, held: &[Ticket], stored: u64, clock: u32, taken: u32) {
+        self.calls += 1;
+        let name = match taken as usize {
+            0 if held.is_empty() => "nothing held",
+            0 => "none",
+            taken if taken < held.len() => "some",
+            taken if taken == held.len() => "all",
+            _ => NEVER,
+        };
+        self.add("clearing", name);
+        if stored > TICKET_LIMIT as u64 {
+            self.add("above limit", name);
+        }
+        cleared_at(held, clock, taken > 0).for_each(|name| self.add("cleared at", name));
+    }
+
     /// A request was answered. The service is the one after the call: a refusal leaves it as it
     /// was, and a grant leaves its accounts.
-    pub(super) fn requested(&mut self, service: &Service, bytes: &[u8], clock: u32, error: u32) {
+    pub(super) fn requested(
+        &mut self,
+        service: &Service,
+        met: &Met,
+        bytes: &[u8],
+        clock: u32,
+        error: u32,
+    ) {
         self.calls += 1;
         match read_request(bytes) {
             Err(_) => {
                 self.add("unreadable 60", if error == 60 { unreadable(bytes) } else { NEVER })
             }
-            Ok(request) if error == 0 => self.grants(service, &request),
+            Ok(request) if error == 0 => {
+                self.grants(service, &request);
+                self.count_place(service, met);
+            }
             Ok(request) => {
                 let refusal = Refusal { service, request: &request, clock };
                 let (group, name) = refusal.reason(error);
@@ -147,6 +202,9 @@ impl Tally {
                 refusal.edges(error).for_each(|name| self.add("refused at", name));
                 if let Some(name) = refusal.no_account(group, error) {
                     self.add("no account", name);
+                }
+                if let Some(name) = refusal.cleared(met.past, group, error) {
+                    self.add("41 cleared", name);
                 }
             }
         }
@@ -172,6 +230,22 @@ impl Tally {
             if usize::from(ticket.hops) == TRAIL_LIMIT {
                 self.add("eighth hop", route);
             }
+        }
+    }
+
+    /// The number of a granted ticket, the ledger's last, and its place.
+    fn count_place(&mut self, service: &Service, met: &Met) {
+        let place = service.ledger.len() - 1;
+        let number = service.ledger[place].number;
+        let high = usize::from(number) >= TICKET_LIMIT;
+        let held = service.ledger[..place].iter().any(|ticket| ticket.number == number);
+        self.add("place", if place < met.freed { "set free" } else { "new" });
+        match (met.fresh, held) {
+            (true, true) => self.add("number", NEVER),
+            (true, _) => self.add("number", if high { "512 and above" } else { "below 512" }),
+            (_, true) => self.add("other words", "held already"),
+            _ if number == LAST_NUMBER => self.add("other words", "65535"),
+            _ => self.add("other words", if high { "512 and above" } else { "number below 512" }),
         }
     }
 
@@ -244,6 +318,31 @@ fn unreadable(request: &[u8]) -> &'static str {
         "ticket"
     } else {
         "left over"
+    }
+}
+
+/// The edges at which the clock of a clearing stood: those of the tickets held before it, and of the
+/// clock itself.
+fn cleared_at(held: &[Ticket], clock: u32, some: bool) -> impl Iterator<Item = &'static str> {
+    let ends = || held.iter().map(|ticket| ticket.end);
+    let edges = [
+        (ends().any(|end| end.checked_sub(1) == Some(clock)), "end - 1"),
+        (ends().any(|end| end == clock), "end"),
+        (ends().any(|end| end.checked_add(1) == Some(clock)), "end + 1"),
+        (clock == 0, "0"),
+        (clock == 0 && some, "0, some"),
+        (clock == LAST_SECOND, "last second"),
+    ];
+    edges.into_iter().filter_map(|(stood, name)| stood.then_some(name))
+}
+
+/// R5.10: the next number of a service from other words.
+fn next_number(service: &Service) -> &'static str {
+    match u16::try_from(service.next) {
+        Err(_) => "none left",
+        Ok(next) if next >= LAST_NUMBER - 5 => "near the last",
+        Ok(next) if service.first_held(next).is_some() => "held",
+        Ok(_) => "not held",
     }
 }
 
@@ -335,9 +434,35 @@ impl Refusal<'_> {
             13 => ("last", "13 route"),
             61 => ("last", "61"),
             11 => ("last", "11"),
-            29 => ("last", "29"),
+            29 => ("last", self.no_room()),
             _ => ("last", NEVER),
         }
+    }
+
+    /// R6.7: what is not left.
+    fn no_room(&self) -> &'static str {
+        let full = self.service.held().len() == TICKET_LIMIT;
+        let last = self.service.next > LAST_NUMBER.into();
+        match (full, last) {
+            (true, true) => "29 both",
+            (true, false) => "29 full",
+            (false, true) => "29 no number",
+            (false, false) => NEVER,
+        }
+    }
+
+    /// R7.6: the ticket for which 41 was given in this group, where a clearing took it out; and whether
+    /// the clock is earlier than that clearing's.
+    fn cleared(&self, past: &Past, group: &str, error: u32) -> Option<&'static str> {
+        let (tgt, evidence) = presented(self.request);
+        let ticket = if group == "TGT" { tgt } else { evidence };
+        let taken_at = past.taken_at(ticket.filter(|_| error == 41)?)?;
+        Some(match (group, self.clock < taken_at) {
+            ("TGT", false) => "TGT",
+            ("TGT", true) => "TGT, earlier clock",
+            (_, false) => "evidence",
+            (_, true) => "evidence, earlier clock",
+        })
     }
 
     /// Which ticket fails a test, the TGT first.

@@ -1,7 +1,7 @@
 //! The cases: each a state, a call, and the error number that it has to give.
 
 use crate::scenes::{self, other_client, other_number, Scene, END, NOW, UNKNOWN};
-use crate::sides::{make, Call, Output, Side};
+use crate::sides::{make, Call, Changes, Output, Side};
 use crate::stage::{Names, Pair, Size, START};
 use harness::accounts::{Edit, DISABLED};
 use harness::limits::{ACCOUNT_LIMIT, LONGEST_RECORD, TICKET_LIMIT};
@@ -30,8 +30,9 @@ pub struct Group {
     pub cases: Vec<Case>,
 }
 
-/// The case that makes no call.
+/// The cases that make no call: the loop around most calls, and the one around clearings.
 pub const LOOP: &str = "no call, the loop alone";
+pub const CLEARING_LOOP: &str = "no call, the ledger put back";
 
 /// What the summary shows of a full service.
 const OF_FULL: &[&str] = &[
@@ -48,6 +49,10 @@ const OF_FULL: &[&str] = &[
     "day total",
 ];
 
+/// The clearings.
+const CLEARINGS: &[&str] =
+    &["clear, none of 512 ended", "clear, half of 512 ended", "clear, all of 512 ended"];
+
 /// A delegated record with a full trail, and the barred mark.
 const LONGEST: &[u8; LONGEST_RECORD] = b"\x03\xff\x01\x02\x40\x00\x00\x00\x03\x04\x00\x00\x03\xe8\x00\x00\x90\x88\x05\x06\x07\x08\x08\x01\x02\x03\x04\x05\x06\x07\x08";
 
@@ -60,6 +65,7 @@ pub fn groups() -> Vec<Group> {
     let full = Size { full: true, tickets: TICKET_LIMIT - 1, ..empty };
     let ends = Size { names: Names::Ends, ..full };
     let fronts = Size { names: Names::Fronts, ..full };
+    let brim = Size { tickets: TICKET_LIMIT, ..full };
     let service = |size| {
         [grants(size), of_tgt(size), of_evidence(size), of_names(size), of_end(size), others(size)]
             .into_iter()
@@ -74,6 +80,7 @@ pub fn groups() -> Vec<Group> {
         group(&held, OF_FULL, service(full)),
         group("The same, names that differ at the end", proxy, alike(ends)),
         group("The same, names that differ at the front", &[], alike(fronts)),
+        group("A full ledger cleared", CLEARINGS, clearings(brim)),
     ]
 }
 
@@ -102,7 +109,7 @@ fn record_layer(size: Size) -> Vec<Case> {
     let request = |bytes: &[u8]| with(Call::ReadRequest(bytes.to_vec()));
     let w3 = w3_with(&counted(TICKET_1));
     vec![
-        done(LOOP, with(Call::Nothing)),
+        done(LOOP, with(Call::Nothing(Changes::Parts { account: 0 }))),
         done("record of ticket 0, initial, 17 bytes", rewrite(TICKET_0)),
         done("record of ticket 1, S4U2self, 20 bytes", rewrite(TICKET_1)),
         done("record of ticket 2, delegated, 24 bytes", rewrite(TICKET_2)),
@@ -196,7 +203,7 @@ fn others(size: Size) -> Vec<Case> {
     let unset = scenes::one_unset(size);
     let taken = Edit { name: unset.name(0), ..unset.edit(1, 0, &[], &[]) };
     let chain = scenes::nine_steps(size).stage.pair;
-    let last = chain.second.ledger.len() as u32 - 1;
+    let last = chain.second.ledger.last().expect("the last of the hops").number.into();
     let with = |call| (stage.pair.copy(), call);
     vec![
         done("edit, the row as it was", with(Call::Edit(kept))),
@@ -222,12 +229,37 @@ fn alike(size: Size) -> Vec<Case> {
     ]
 }
 
+/// The clearings of a full ledger, and the loop around them.
+fn clearings(size: Size) -> Vec<Case> {
+    let [none, half, all] = [|_| false, |place| place % 2 == 0, |_| true];
+    let (pair, _) = scenes::clearing(size, none);
+    vec![
+        done(CLEARING_LOOP, (pair, Call::Nothing(Changes::Ledger))),
+        done(CLEARINGS[0], scenes::clearing(size, none)),
+        done(CLEARINGS[1], scenes::clearing(size, half)),
+        done(CLEARINGS[2], scenes::clearing(size, all)),
+    ]
+}
+
 impl Case {
+    /// Whether the case is one of the loops.
+    pub fn is_loop(&self) -> bool {
+        matches!(self.call, Call::Nothing(_))
+    }
+
+    /// The name of the loop around the call.
+    pub fn loop_name(&self) -> &'static str {
+        match self.call.changes() {
+            Changes::Parts { .. } => LOOP,
+            Changes::Ledger => CLEARING_LOOP,
+        }
+    }
+
     /// Makes the call once of both sides, and looks whether all is as it has to be: one answer with
     /// the case's error number, one output, one state; and every word put back as it was.
     pub fn check(&self) {
         let Pair { mut library, mut second } = self.pair.copy();
-        let kept = (library.keep(self.call.account()), second.keep(self.call.account()));
+        let kept = (library.keep(self.call.changes()), second.keep(self.call.changes()));
         let mut expected = library.clone();
         let [mut output, mut other] = [Output::marked(), Output::marked()];
         let said = make(&mut library, &self.call, &mut output);
@@ -240,6 +272,7 @@ impl Case {
                 words::store_ticket(&mut expected.ledger, ticket);
             }
             Call::Edit(edit) if said.error == 0 => words::store_edit(&mut expected.accounts, edit),
+            Call::Clear(clock) => words::store_clearing(&mut expected.ledger, *clock),
             _ => {}
         }
         assert!(library == expected, "{}: the library's words", self.name);

@@ -1,7 +1,7 @@
 //! The time of a call, and its instructions as callgrind counts them.
 
 use crate::cases::Case;
-use crate::sides::{repeated_calls, Call, Side};
+use crate::sides::{repeated_calls, Call, Changes, Side};
 use harness::{library, service};
 use std::env;
 use std::error::Error;
@@ -51,11 +51,20 @@ impl Both {
     }
 }
 
-/// The nanoseconds of a call.
-fn nanoseconds<S: Side>(side: &mut S, call: &Call) -> f64 {
+/// The nanoseconds of a call and the loop around it.
+fn with_loop<S: Side>(side: &mut S, call: &Call) -> f64 {
     let start = Instant::now();
     repeated_calls(side, call, TIMED);
     start.elapsed().as_nanos() as f64 / f64::from(TIMED)
+}
+
+/// The nanoseconds of a call. The loop that puts a whole ledger back takes as long as a call, and is
+/// taken off; any other loop is not.
+fn nanoseconds<S: Side>(side: &mut S, call: &Call) -> f64 {
+    match call {
+        Call::Clear(_) => with_loop(side, call) - with_loop(side, &Call::Nothing(Changes::Ledger)),
+        _ => with_loop(side, call),
+    }
 }
 
 /// The nanoseconds of both sides, round by round, each side first in turn.

@@ -223,6 +223,18 @@ pub fn nine_steps(size: Size) -> Scene {
     Scene::new(stage, asked)
 }
 
+/// A clearing now of tickets of account 0; those in the places of which it is said so have ended.
+pub fn clearing(size: Size, has_ended: fn(usize) -> bool) -> (Pair, Call) {
+    let mut stage = Stage::new(size, 1);
+    stage.set(0, 0, &[], &[]);
+    for place in 0..size.tickets {
+        let till = Some(if has_ended(place) { NOW } else { END });
+        let asked = Asked { till, ..stage.kind_1(0) };
+        stage.grant(&asked, START);
+    }
+    (stage.pair, Call::Clear(NOW))
+}
+
 /// No accounts and no tickets of its own, for a request that is refused whatever they are.
 pub fn bare(size: Size) -> Scene {
     let mut stage = Stage::new(size, 0);

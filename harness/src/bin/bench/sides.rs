@@ -4,7 +4,9 @@ use harness::accounts::{Account, Edit};
 use harness::calls::{self, Answer, RequestFields};
 use harness::limits::{ACCOUNT_LIMIT, LONGEST_RECORD, PLACE_SIZE, ROW_WORDS, TICKET_LIMIT};
 use harness::record::{Origin, Ticket, NO_TRAIL};
-use harness::words::{count_held, number_at, place_at, row_at};
+use harness::words::{
+    count_held, number_at, place_at, place_words, row_at, LedgerWords, COUNT_AT, NEXT_AT,
+};
 use harness::{library, service};
 use std::hint::black_box;
 
@@ -22,6 +24,9 @@ pub trait Side {
     /// `tickets_request`.
     fn request(&mut self, request: &[u8], clock: u32, output: &mut [u8]) -> Answer;
 
+    /// `tickets_clear`.
+    fn clear(&mut self, clock: u32) -> u32;
+
     /// `tickets_descent`.
     fn descent(&self, number: u32) -> Answer;
 
@@ -34,32 +39,43 @@ pub trait Side {
     /// `tickets_read_request`.
     fn read_request(request: &[u8], fields: &mut RequestFields) -> u32;
 
-    /// What a call may change: the count of tickets, the place of the next ticket, and the row of the
-    /// account with this number.
-    fn keep(&self, number: usize) -> Self::Kept;
+    /// What a call may change.
+    fn keep(&self, changes: Changes) -> Self::Kept;
 
     /// Puts all of it back, whether the call changed it or not.
     fn put_back(&mut self, kept: &Self::Kept);
 }
 
+/// What a call may change, and what is put back after it.
+#[derive(Clone, Copy, Debug, PartialEq, Eq)]
+pub enum Changes {
+    /// The count of tickets, the next number, the place of the next ticket, and the row of the account
+    /// with this number.
+    Parts { account: usize },
+    /// All of the ledger.
+    Ledger,
+}
+
 /// The words that a call of the library may change, with where they stand.
-pub struct KeptWords {
-    count: u64,
-    numbers_at: usize,
-    numbers: u64,
-    place: usize,
-    ticket: [u64; PLACE_SIZE],
-    row: usize,
-    account: [u64; ROW_WORDS],
+pub enum KeptWords {
+    Parts {
+        count: u64,
+        next: u64,
+        numbers_at: usize,
+        numbers: u64,
+        place: usize,
+        ticket: [u64; PLACE_SIZE],
+        row: usize,
+        account: [u64; ROW_WORDS],
+    },
+    Ledger(Box<LedgerWords>),
 }
 
 /// The same of the second implementation. A ticket behind the last one is no part of its state, but it
 /// is written too, so that both sides put back as much.
-pub struct KeptValues {
-    count: usize,
-    ticket: Ticket,
-    row: usize,
-    account: Option<Account>,
+pub enum KeptValues {
+    Parts { count: usize, next: u64, ticket: Ticket, row: usize, account: Option<Account> },
+    Ledger(Vec<Ticket>),
 }
 
 /// The ticket that is put behind the last one.
@@ -89,6 +105,10 @@ impl Side for library::Service {
         library::Service::request(self, request, clock, output)
     }
 
+    fn clear(&mut self, clock: u32) -> u32 {
+        library::Service::clear(self, clock)
+    }
+
     fn descent(&self, number: u32) -> Answer {
         library::Service::descent(self, number)
     }
@@ -105,27 +125,36 @@ impl Side for library::Service {
         library::read_request(request, fields)
     }
 
-    fn keep(&self, number: usize) -> KeptWords {
+    fn keep(&self, changes: Changes) -> KeptWords {
+        let Changes::Parts { account } = changes else {
+            return KeptWords::Ledger(Box::new(self.ledger));
+        };
         // A full ledger has no place for a ticket, and its last one stands in.
-        let next = count_held(&self.ledger).min(TICKET_LIMIT - 1);
-        let place = place_at(next);
-        let row = row_at(number);
-        KeptWords {
-            count: self.ledger[0],
-            numbers_at: number_at(next),
-            numbers: self.ledger[number_at(next)],
-            place,
-            ticket: std::array::from_fn(|word| self.ledger[place + word]),
+        let place = count_held(&self.ledger).min(TICKET_LIMIT - 1);
+        let row = row_at(account);
+        KeptWords::Parts {
+            count: self.ledger[COUNT_AT],
+            next: self.ledger[NEXT_AT],
+            numbers_at: number_at(place),
+            numbers: self.ledger[number_at(place)],
+            place: place_at(place),
+            ticket: place_words(&self.ledger, place),
             row,
             account: std::array::from_fn(|word| self.accounts[row + word]),
         }
     }
 
     fn put_back(&mut self, kept: &KeptWords) {
-        self.ledger[0] = kept.count;
-        self.ledger[kept.numbers_at] = kept.numbers;
-        self.ledger[kept.place..][..PLACE_SIZE].copy_from_slice(&kept.ticket);
-        self.accounts[kept.row..][..ROW_WORDS].copy_from_slice(&kept.account);
+        match kept {
+            KeptWords::Ledger(ledger) => self.ledger = **ledger,
+            KeptWords::Parts { count, next, numbers_at, numbers, place, ticket, row, account } => {
+                self.ledger[COUNT_AT] = *count;
+                self.ledger[NEXT_AT] = *next;
+                self.ledger[*numbers_at] = *numbers;
+                self.ledger[*place..][..PLACE_SIZE].copy_from_slice(ticket);
+                self.accounts[*row..][..ROW_WORDS].copy_from_slice(account);
+            }
+        }
     }
 }
 
@@ -140,6 +169,10 @@ impl Side for service::Service {
 
     fn request(&mut self, request: &[u8], clock: u32, output: &mut [u8]) -> Answer {
         calls::request(self, request, clock, output)
+    }
+
+    fn clear(&mut self, clock: u32) -> u32 {
+        calls::clear(self, clock)
     }
 
     fn descent(&self, number: u32) -> Answer {
@@ -158,26 +191,40 @@ impl Side for service::Service {
         calls::read_request(request, fields)
     }
 
-    fn keep(&self, number: usize) -> KeptValues {
-        let account = self.table.rows[number];
-        KeptValues { count: self.ledger.len(), ticket: BLANK, row: number, account }
+    fn keep(&self, changes: Changes) -> KeptValues {
+        let Changes::Parts { account: row } = changes else {
+            return KeptValues::Ledger(self.ledger.clone());
+        };
+        let (count, account) = (self.ledger.len(), self.table.rows[row]);
+        KeptValues::Parts { count, next: self.next, ticket: BLANK, row, account }
     }
 
     fn put_back(&mut self, kept: &KeptValues) {
-        self.ledger.truncate(kept.count);
-        self.ledger.spare_capacity_mut()[0].write(kept.ticket);
-        self.table.rows[kept.row] = kept.account;
+        match kept {
+            KeptValues::Ledger(ledger) => {
+                self.ledger.clear();
+                self.ledger.extend_from_slice(ledger);
+            }
+            KeptValues::Parts { count, next, ticket, row, account } => {
+                self.ledger.truncate(*count);
+                self.next = *next;
+                self.ledger.spare_capacity_mut()[0].write(*ticket);
+                self.table.rows[*row] = *account;
+            }
+        }
     }
 }
 
 /// A call with its arguments.
 pub enum Call {
-    /// No call: what the loop around every other one costs.
-    Nothing,
+    /// No call: what the loop around every other one costs that may change as much.
+    Nothing(Changes),
     /// `tickets_request` of these bytes, with so much room in the output.
     Request { bytes: Vec<u8>, clock: u32, room: usize },
     /// `tickets_edit`.
     Edit(Edit<'static>),
+    /// `tickets_clear` at a clock reading.
+    Clear(u32),
     /// `tickets_descent` of a number.
     Descent(u32),
     /// `tickets_day_total`.
@@ -189,11 +236,16 @@ pub enum Call {
 }
 
 impl Call {
-    /// The account that an edit may set; 0 for every other call.
-    pub fn account(&self) -> usize {
+    /// What the call may change: of the accounts the one that an edit sets, and account 0 for every
+    /// other call.
+    pub fn changes(&self) -> Changes {
         match self {
-            Call::Edit(edit) => (edit.number as usize).min(ACCOUNT_LIMIT - 1),
-            _ => 0,
+            Call::Nothing(changes) => *changes,
+            Call::Clear(_) => Changes::Ledger,
+            Call::Edit(edit) => {
+                Changes::Parts { account: (edit.number as usize).min(ACCOUNT_LIMIT - 1) }
+            }
+            _ => Changes::Parts { account: 0 },
         }
     }
 }
@@ -203,7 +255,7 @@ impl Call {
 pub struct Said {
     /// The error number.
     pub error: u32,
-    /// The value, or the day total.
+    /// The value, the day total, or how many tickets were taken out.
     pub value: u64,
 }
 
@@ -236,11 +288,12 @@ impl Output {
 #[inline(never)]
 pub fn make<S: Side>(side: &mut S, call: &Call, output: &mut Output) -> Said {
     match call {
-        Call::Nothing => Said { error: 0, value: 0 },
+        Call::Nothing(_) => Said { error: 0, value: 0 },
         Call::Request { bytes, clock, room } => {
             side.request(bytes, *clock, &mut output.record[..*room]).into()
         }
         Call::Edit(edit) => Said { error: side.edit(edit), value: 0 },
+        Call::Clear(clock) => Said { error: 0, value: side.clear(*clock).into() },
         Call::Descent(number) => side.descent(*number).into(),
         Call::DayTotal => Said { error: 0, value: side.day_total() },
         Call::Rewrite(record) => S::rewrite(record, &mut output.record).into(),
@@ -255,7 +308,7 @@ pub fn make<S: Side>(side: &mut S, call: &Call, output: &mut Output) -> Said {
 /// the second implementation's ledger has room for all tickets and one more.
 #[inline(never)]
 pub fn repeated_calls<S: Side>(side: &mut S, call: &Call, calls: u32) {
-    let kept = side.keep(call.account());
+    let kept = side.keep(call.changes());
     let mut output = Output::marked();
     for _ in 0..calls {
         black_box(make(black_box(&mut *side), black_box(call), black_box(&mut output)));

@@ -102,10 +102,11 @@ impl Pair {
         let mut copy = Pair { library: self.library.clone(), ..Pair::fresh() };
         copy.second.table = self.second.table.clone();
         copy.second.ledger.extend_from_slice(&self.second.ledger);
+        copy.second.next = self.second.next;
         copy
     }
 
-    /// Whether both sides stand for the same accounts and tickets.
+    /// Whether both sides stand for the same accounts, tickets and next number.
     pub fn agrees(&self) -> bool {
         let library::Service { accounts, ledger } = &self.library;
         words::service(accounts, ledger) == self.second

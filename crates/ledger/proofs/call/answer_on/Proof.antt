@@ -9,7 +9,7 @@ use Rattle.definitions.specs.LedgerWords.{ticketsOf, nextNumber}
 use Rattle.definitions.specs.declared.request.Path.the-variants.{Decide}
 use Rattle.ledger.proofs.call.answer_on.Statement.{statement}
 use Rattle.ledger.proofs.call.answer_on.Tie as tie
-use Rattle.definitions.proofs.Services.{performed-refused, granted-place, performed-granted, refused-length}
+use Rattle.definitions.proofs.Services.{performed-refused, grants, granting, performed-granted, refused-length}
 use Rattle.ledger.specs.Lookups.{lengthIn}
 use Rattle.ledger.proofs.Lookups.{path-decides, granted-length}
 use Rattle.definitions.specs.Fields.{Bytes}
@@ -31,8 +31,9 @@ store-ticket-requires c κs =
     let y = c .before .before .is-accepted in
     let n = c .before .before .before .before .before .before .before .count-held in
     let h = sym (y .ensures) ∙ not-false (y .result) (c .before .if1 .left) in
-    let p = granted-place (record { accounts = now (a .accounts); ledger = now (a .ledger) }) (now (a .bytes)) (a .clock) (length (now (a .output))) (d .result) e h in
-    (n .ensures .0, omega (arith, n .ensures .0, p))
+    let b : Bytes (now (a .bytes)) = λ k. c .before .before .before .before .before .before .before .before .before .before .shared-slice-known .given k in
+    let g = granting (record { accounts = now (a .accounts); ledger = now (a .ledger) }) (now (a .bytes)) (a .clock) (length (now (a .output))) (d .result .ticket) b (c .before .before .before .before .before .before .before .before .before .before .before .fits .clock) (sym e ∙ grants (d .result) h) in
+    (n .ensures .0, omega (arith, n .ensures .0, g .place), g .number)
 
 returns-2 : tie.Need-returns-2
 returns-2 c =

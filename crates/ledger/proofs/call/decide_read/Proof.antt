@@ -1,23 +1,22 @@
-use mathlib.Core.Path.{sym}
 use borrow.Author.Needs.{needs}
 use Rattle.ledger.proofs.call.decide_read.Statement.{statement}
 use Rattle.ledger.proofs.call.decide_read.Tie as tie
 
 returns : tie.Need-returns
 returns c =
-    simp (c .decide-initial .ensures, c .before .before .before .asks-forwardable .ensures, c .before .enum-told .given .1, sym (c .before .before .before .before .before .pre))
+    simp (c .decide-initial .ensures, c .before .before .before .asks-forwardable .ensures, c .before .enum-told .given .1, c .before .before .before .before .next-number .ensures)
 
 returns-2 : tie.Need-returns-2
 returns-2 c =
-    simp (c .decide-direct .ensures, c .before .holds .ensures, c .before .before .before .before .asks-forwardable .ensures, c .before .before .enum-told2 .given .1, sym (c .before .before .before .before .before .before .pre))
+    simp (c .decide-direct .ensures, c .before .holds .ensures, c .before .before .before .before .asks-forwardable .ensures, c .before .before .enum-told2 .given .1, c .before .before .before .before .before .next-number .ensures)
 
 returns-3 : tie.Need-returns-3
 returns-3 c =
-    simp (c .decide-s4u2self .ensures, c .before .holds2 .ensures, c .before .before .before .before .asks-forwardable .ensures, c .before .before .enum-told3 .given .1, sym (c .before .before .before .before .before .before .pre))
+    simp (c .decide-s4u2self .ensures, c .before .holds2 .ensures, c .before .before .before .before .asks-forwardable .ensures, c .before .before .enum-told3 .given .1, c .before .before .before .before .before .next-number .ensures)
 
 returns-4 : tie.Need-returns-4
 returns-4 c =
-    simp (c .decide-s4u2proxy .ensures, c .before .holds4 .ensures, c .before .before .holds3 .ensures, c .before .before .before .is-resource-based .ensures, c .before .before .before .before .has-cname-in-addl-tkt .ensures, c .before .before .before .before .before .enum-told4 .given .1, sym (c .before .before .before .before .before .before .before .before .before .pre))
+    simp (c .decide-s4u2proxy .ensures, c .before .holds4 .ensures, c .before .before .holds3 .ensures, c .before .before .before .is-resource-based .ensures, c .before .before .before .before .has-cname-in-addl-tkt .ensures, c .before .before .before .before .before .enum-told4 .given .1, c .before .before .before .before .before .before .before .before .next-number .ensures)
 
 pub decide-read-spec : {M : Type 1} → statement M
 decide-read-spec =

@@ -6,9 +6,10 @@ use Rattle.definitions.specs.LedgerWords.{storeTicket}
 returns : tie.Need-returns
 unfolding storeTicket
 returns c =
-    simp (c .put-count .ensures, c .before .before .before .before .pre .0, c .before .before .put-ticket .ensures)
+    simp (c .put-next .ensures, c .before .before .put-count .ensures, c .before .before .before .before .put-ticket .ensures, c .before .before .before .before .before .before .next-number .ensures, c .before .before .before .before .before .before .before .before .pre .0)
 
 pub store-ticket-spec : {M : Type 1} → statement M
 store-ticket-spec =
     tie.close
-    (tie.spec (λ c κs. search needs) (λ c. search needs) (λ c κs. search needs) returns)
+    (tie.spec (λ c κs. search needs) (λ c κs. search needs) (λ c. search needs) (λ c κs. search needs) (λ c. search needs)
+    (λ c κs. search needs) returns)
