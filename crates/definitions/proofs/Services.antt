@@ -8,7 +8,7 @@ use lib.ListN.{length}
 use mir.Syntax.{w32}
 use mir.Val.{Fits}
 use borrow.Author.Tests.{le-leb}
-use Rattle.definitions.specs.Limits.{accountLimit, longestRecord, ticketLimit, lastNumber}
+use Rattle.definitions.specs.Limits.{accountLimit, longestRecord, ticketLimit}
 use Rattle.definitions.specs.Fields.{Bytes}
 use Rattle.definitions.specs.TicketRecords.{Writable, blankTicket}
 use Rattle.definitions.specs.Output.{outputOf}
@@ -28,7 +28,7 @@ use Rattle.definitions.specs.Clearing.{gone}
 use Rattle.definitions.specs.ClearedWords.{clearTickets}
 use Rattle.definitions.specs.Services.{Service, editedService, accountsAfter, decisionOf, perform, requestedService}
 use Rattle.definitions.proofs.LedgerWords.{tickets-length}
-use Rattle.definitions.proofs.Answers.{grant-tells, grant-room, grant-writable}
+use Rattle.definitions.proofs.Answers.{grant-tells, grant-room, grant-number, grant-writable}
 
 -- ---- An edit
 pub performed-edit : (s : Service) (e : Edit) (r : Answer) (w : List ℕ) → r ≡ editAnswer (tableOf (s .accounts)) e → w ≡ storedBy r (s .accounts) e
@@ -38,10 +38,10 @@ performed-edit s e r w q h =
     ∙ ap (editedService s e) q
 
 -- ---- A request
--- what holds of a ticket that a service grants: a place is free, a number is left, the output has room, and the writer accepts it
+-- what holds of a ticket that a service grants: a place is free, it has the next number, the output has room, and the writer accepts it
 pub record Granting (s : Service) (room : ℕ) (t : Ticket) : Type 0 where
   pub place : countHeld (s .ledger) < ticketLimit
-  pub number : nextNumber (s .ledger) ≤ lastNumber
+  pub number : t .number ≡ nextNumber (s .ledger)
   pub fits : longestRecord ≤ room
   pub writable : Writable t
 
@@ -55,10 +55,9 @@ granting s bytes clock room t b f h =
     let l = ticketsOf (s .ledger) in
     let n = nextNumber (s .ledger) in
     let g = grant-tells a l n bytes clock room t h in
-    let r = grant-room a l n bytes clock room t (g .by-kind) in
     record {
-      place = rw (← tickets-length (s .ledger)) (r .0);
-      number = r .1;
+      place = rw (← tickets-length (s .ledger)) (grant-room a l n bytes clock room t (g .by-kind) .0);
+      number = grant-number a l n bytes clock room t (g .by-kind);
       fits = g .fits;
       writable = grant-writable a l n bytes clock room t (rows-length (s .accounts) 0 accountLimit) b f g;
     }

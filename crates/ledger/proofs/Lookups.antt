@@ -1,15 +1,15 @@
 -- Laws of the look-up: many places at a time, and what a kind presents.
 -- Assumes nothing.
 use mathlib.Core.Path.{_≡_, refl, sym, ap, _∙_}
-use mathlib.Core.Bool.{Bool, true, false, _&&_, false≢true}
+use mathlib.Core.Bool.{Bool, true, false, cond, _&&_, false≢true}
 use mathlib.Core.List.{List}
 use Prim.Native.Nat.{ℕ, zero, suc, _+_, _-_, _*_, _/_, _%_, _≤_, _<_}
 use native.Mathlib.Nat.{add-zero, zero-add}
 use native.Mathlib.Omega.{arith}
 use lib.Bits.{bitAnd, bitXor, and-le-l}
-use lib.Dec.{ltb}
-use borrow.Author.Tests.{ltb-true, ltb-false, le-ltb, le-leb}
-use Rattle.definitions.specs.Limits.{longestRecord, numberBits, two16, numbersStart}
+use lib.Dec.{ltb, leb}
+use borrow.Author.Tests.{ltb-true, ltb-false, le-ltb, le-leb, leb-true}
+use Rattle.definitions.specs.Limits.{longestRecord, numberBits, two16, numbersStart, ticketLimit, lastNumber}
 use Rattle.definitions.specs.Words.{laneOf, laneAt}
 use Rattle.rules.specs.Lanes.{allLanes, topBits, filledMarks}
 use Rattle.definitions.specs.LedgerWords.{ticketIn, ticketAt, countHeld, ticketsFrom, ticketsOf}
@@ -17,7 +17,7 @@ use Rattle.definitions.specs.HeldTickets.{firstTicket, isTicket, holds}
 use Rattle.definitions.specs.Equality.{sameTicket}
 use Rattle.ledger.specs.declared.held.Held.{Held}
 use mathlib.Core.Option.{Option, some, none}
-use Rattle.ledger.specs.Lookups.{heldOf, firstHeld, heldAt, NoneHas, FirstLane, decideOn, lengthIn}
+use Rattle.ledger.specs.Lookups.{heldOf, firstHeld, heldAt, NoneHas, FirstLane, momentAt, decideOn, lengthIn}
 use lib.ListN.{length, getD}
 use Rattle.definitions.specs.Errors.{isAccepted}
 use Rattle.definitions.specs.Requests.{readRequest, pathOf, requestFor, requestLayout}
@@ -26,16 +26,18 @@ use Rattle.definitions.specs.declared.error.Answer.{Answer}
 use Rattle.definitions.specs.declared.error.Answer.the-variants.{Refused}
 use Rattle.definitions.specs.declared.ticket.Ticket.{Ticket}
 use Rattle.definitions.specs.declared.request.Kind.{Kind}
+use Rattle.definitions.specs.declared.request.Request.{Request}
 use mir.Syntax.{w32}
 use Rattle.definitions.proofs.Services.{granting, grants}
-use Rattle.definitions.proofs.Decisions.{past-accepted}
+use Rattle.definitions.proofs.Bools.{and-no}
+use Rattle.definitions.proofs.Decisions.{past-accepted, alike-kind}
 use Rattle.definitions.specs.Answers.{decideRead}
 use mir.Val.{Fits}
 use Rattle.definitions.specs.declared.request.Path.{Path}
 use Rattle.definitions.specs.declared.request.Path.the-variants.{Decide, Refuse}
 use Rattle.definitions.specs.declared.request.RequestReading.{RequestReading}
 use Rattle.definitions.specs.Accounts.{Table}
-use Rattle.definitions.specs.Decisions.{refuse, openingChecks, past}
+use Rattle.definitions.specs.Decisions.{refuse, openingChecks, past, decideKind}
 use Rattle.definitions.specs.declared.decision.Moment.{Moment}
 use Rattle.definitions.specs.declared.decision.Decision.{Decision}
 use Rattle.definitions.specs.Answers.{decideRequest, lengthOf}
@@ -172,6 +174,26 @@ held-found l t h e = by (firstTicket (t .number) l) ∙ ap (λ (x : Held). x .fo
     by (some u) = refl
 
 -- ---- A request on a decision path
+-- at the code's moment the same is decided as at the stored next number
+moment-decides : (clock count stored : ℕ) (k : Kind) (a : Table) (s : List ℕ) (r : Request) (g e : Bool)
+    → decideKind k a s r g e (momentAt clock count stored) ≡ decideKind k a s r g e (record { clock = clock; count = count; next = stored })
+unfolding momentAt
+moment-decides clock count stored k a s r g e = by (leb stored lastNumber) refl
+  where
+    by : (b : Bool) → leb stored lastNumber ≡ b
+        → decideKind k a s r g e (record { clock = clock; count = cond b count ticketLimit; next = stored % two16 })
+        ≡ decideKind k a s r g e (record { clock = clock; count = count; next = stored })
+    by true q =
+        let same : stored % two16 ≡ stored = omega (arith, leb-true stored lastNumber q) in
+        ap (λ (n : ℕ). decideKind k a s r g e (record { clock = clock; count = count; next = n })) same
+    by false q = alike-kind clock ticketLimit (stored % two16) count stored refl (and-no (ltb count ticketLimit) (leb stored lastNumber) q) k a s r g e
+
+pub moment-read : (clock count stored : ℕ) (a : Table) (l : List Ticket) (s : List ℕ) (r : Request) (k : Kind) → r .kind ≡ k
+    → decideKind k a s r (holds l (r .tgt)) (holds l (r .evidence)) (momentAt clock count stored) ≡ decideRead a l s (record { clock = clock; count = count; next = stored }) r
+moment-read clock count stored a l s r k e =
+    moment-decides clock count stored k a s r (holds l (r .tgt)) (holds l (r .evidence))
+    ∙ ap (λ (j : Kind). decideKind j a s r (holds l (r .tgt)) (holds l (r .evidence)) (record { clock = clock; count = count; next = stored })) (sym e)
+
 -- the path that the first bytes pick decides
 pub path-decides : (a : Table) (l : List Ticket) (next : ℕ) (s : List ℕ) (clock room : ℕ) (p : Path)
     → p ≡ pathOf (fieldOf requestLayout s (mapOf s) 0) (mapOf s) → decideOn a l next s clock room p ≡ decideRequest a l next s clock room

@@ -1,13 +1,13 @@
 -- How the code looks tickets up: a request on its decision path, what a look-up tells, and many places at a time (R5.1, R7.1). Of the exported
 -- promises those of `held_at` and `first_held` alone speak of it; the laws of the same name tie it to `holds` and `firstTicket`.
 -- Assumes nothing.
-use Prim.Native.Nat.{ℕ, _≤_, _<_}
+use Prim.Native.Nat.{ℕ, _%_, _≤_, _<_}
 use mathlib.Core.Path.{_≡_}
 use mathlib.Core.Bool.{true, false, cond}
 use mathlib.Core.Option.{Option, some, none}
-use lib.Dec.{ltb}
+use lib.Dec.{ltb, leb}
 use mathlib.Core.List.{List}
-use Rattle.definitions.specs.Limits.{numberBits, numbersInWord}
+use Rattle.definitions.specs.Limits.{numberBits, numbersInWord, ticketLimit, lastNumber, two16}
 use Rattle.definitions.specs.Words.{laneOf}
 use Rattle.definitions.specs.LedgerWords.{ticketAt, countHeld}
 use Rattle.definitions.specs.HeldTickets.{firstTicket}
@@ -22,11 +22,17 @@ use Rattle.definitions.specs.Checks.{judge}
 use Rattle.definitions.specs.Decisions.{openingChecks, past}
 use Rattle.definitions.specs.Answers.{decideRead}
 use Rattle.definitions.specs.declared.request.Path.{Path}
+use Rattle.definitions.specs.declared.decision.Moment.{Moment}
 use Rattle.definitions.specs.declared.decision.Decision.{Decision}
 use Rattle.definitions.specs.declared.ticket.Written.{Written}
 use Rattle.definitions.specs.declared.ticket.Written.the-variants.{Length, Refused as Unwritten}
 
 -- ---- A request on a decision path
+-- the moment that the code decides at: where no number is left, that of a full ledger
+unfoldable pub momentAt : ℕ → ℕ → ℕ → Moment
+momentAt clock count stored =
+    record { clock = clock; count = cond (leb stored lastNumber) count ticketLimit; next = stored % two16 }
+
 -- what a request is answered on a path, which its first bytes pick
 unfoldable pub decideOn : Table → List Ticket → ℕ → List ℕ → ℕ → ℕ → Path → Decision
 decideOn table tickets next bytes clock room path =

@@ -10,9 +10,12 @@ use definitions::Answer;
 use definitions::Decision;
 use definitions::Error;
 use definitions::Kind;
+use definitions::LAST_NUMBER;
 use definitions::Moment;
 use definitions::Path;
 use definitions::Request;
+use definitions::TICKET_LIMIT;
+use definitions::TWO_16;
 use definitions::Ticket;
 use definitions::Written;
 use rules::AccountWords;
@@ -40,7 +43,7 @@ ghost use Rattle.definitions.specs.Limits.{longestRecord, ticketLimit};
 ghost use Rattle.definitions.specs.AccountWords.{tableOf};
 ghost use Rattle.definitions.specs.Edits.{editOf};
 ghost use Rattle.definitions.specs.LedgerWords.{countHeld, nextNumber, ticketsOf};
-ghost use Rattle.ledger.specs.Lookups.{decideOn, lengthIn};
+ghost use Rattle.ledger.specs.Lookups.{momentAt, decideOn, lengthIn};
 ghost use Rattle.definitions.specs.Answers.{lengthOf, decideRead};
 ghost use Rattle.definitions.specs.Answers.{edit as an-edit, request as a-request, clear as a-clearing};
 ghost use Rattle.definitions.specs.Services.{freshService, perform};
@@ -71,6 +74,24 @@ pub fn edit(
     edit_account(accounts, number, name, flags, send, receive, lifetime)
 }
 
+// The moment of a decision, where so many tickets are held and this is the stored next number. Where no number is left, it is that of a full
+// ledger, at which the same is decided.
+fn moment_at(clock: u32, count: usize, stored: u64) -> Moment
+    ensures { λ r. ⌜ r ≡ momentAt clock count stored ⌝ }
+{
+    let next = (stored % TWO_16) as u16;
+    let taken = if stored <= LAST_NUMBER {
+        count
+    } else {
+        TICKET_LIMIT
+    };
+    Moment {
+        clock,
+        count: taken,
+        next,
+    }
+}
+
 // What a request that was read is answered, where so many tickets are held: by its kind, with only that looked up which the kind presents.
 fn decide_read(
     accounts: &AccountWords,
@@ -83,8 +104,7 @@ fn decide_read(
     requires { ⌜ count ≡ countHeld (now ledger) ⌝ }
     ensures { λ r. ⌜ r ≡ decideRead (tableOf (now (accounts .entry))) (ticketsOf (now (ledger .entry))) (now (bytes .entry)) (record { clock = clock; count = count; next = nextNumber (now (ledger .entry)) }) request ⌝ }
 {
-    let next = next_number(ledger);
-    let moment = Moment { clock, count, next };
+    let moment = moment_at(clock, count, next_number(ledger));
     let asked = asks_forwardable(request.options);
     let kind = request.kind;
     match kind {

@@ -1,6 +1,5 @@
 // A ticket put behind those held (R7.3).
 use crate::words::LedgerWords;
-use crate::words::next_number;
 use crate::words::put_count;
 use crate::words::put_next;
 use crate::words::put_number;
@@ -17,8 +16,8 @@ use rules::evidence_of;
 use rules::tgt_of;
 use rules::trail_word;
 ghost use mathlib.Core.Path.{_≡_};
-ghost use Prim.Native.Nat.{_+_, _*_, _<_, _≤_};
-ghost use Rattle.definitions.specs.Limits.{ticketLimit, lastNumber, two32, two40, two48, two56, two60};
+ghost use Prim.Native.Nat.{_+_, _*_, _<_};
+ghost use Rattle.definitions.specs.Limits.{ticketLimit, two32, two40, two48, two56, two60};
 ghost use Rattle.definitions.specs.TicketRecords.{tgtOf, evidenceOf};
 ghost use Rattle.definitions.specs.LedgerWords.{countHeld, nextNumber, tagOf, markOf, putTicket, storeTicket};
 
@@ -84,13 +83,12 @@ fn put_ticket(words: &mut LedgerWords, i: usize, t: Ticket)
     put_place(words, i, a, b, c, d);
 }
 
-// Stores a ticket behind those held, of which there are n, and counts the next number up.
+// Stores a ticket, which has the next number, behind those held, of which there are n.
 pub(crate) fn store_ticket(words: &mut LedgerWords, n: usize, t: Ticket)
-    requires { ⌜ (n ≡ countHeld (now words)) × (n < ticketLimit) × (nextNumber (now words) ≤ lastNumber) ⌝ }
+    requires { ⌜ (n ≡ countHeld (now words)) × (n < ticketLimit) × (t .number ≡ nextNumber (now words)) ⌝ }
     ensures { λ _. ⌜ now (words .exit) ≡ storeTicket (now (words .entry)) t ⌝ }
 {
-    let next = next_number(words);
     put_ticket(words, n, t);
     put_count(words, n + 1);
-    put_next(words, next + 1);
+    put_next(words, t.number as u64 + 1);
 }

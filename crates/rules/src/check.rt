@@ -4,7 +4,6 @@ use crate::accounts::is_service;
 use definitions::Account;
 use definitions::Answer;
 use definitions::Error;
-use definitions::LAST_NUMBER;
 use definitions::LONGEST_RECORD;
 use definitions::Moment;
 use definitions::Origin;
@@ -156,7 +155,7 @@ pub(crate) fn check_hop(permitted: bool, evidence: Ticket, rest: Answer) -> Answ
     )
 }
 
-// The last checks: 11, 29.
+// The last checks: 11, 29. A moment has a next number of 16 bits, so that one is left; where none is, it comes with all places taken.
 pub(crate) fn check_last(moment: Moment, window: Window) -> Answer
     ensures { λ r. ⌜ r ≡ judge (lastChecks moment window) ⌝ }
 {
@@ -164,7 +163,7 @@ pub(crate) fn check_last(moment: Moment, window: Window) -> Answer
         moment.clock < window.end,
         Error::KDC_ERR_NEVER_VALID,
         unless(
-            both(moment.count < TICKET_LIMIT, moment.next <= LAST_NUMBER),
+            moment.count < TICKET_LIMIT,
             Error::KDC_ERR_SVC_UNAVAILABLE,
             Answer::Accepted,
         ),

@@ -13,7 +13,6 @@ use crate::name::find_name;
 use crate::routes::is_permitted;
 use crate::tickets::direct_ticket;
 use crate::tickets::initial_ticket;
-use crate::tickets::number_of;
 use crate::tickets::s4u2proxy_ticket;
 use crate::tickets::s4u2self_ticket;
 use crate::windows::grant_window;
@@ -87,10 +86,7 @@ pub fn decide_initial(
     let user = find_named(words, bytes, name);
     let window = initial_window(moment.clock, user.account.lifetime, till);
     let answer = check_user(user.account, check_last(moment, window));
-    conclude(
-        answer,
-        initial_ticket(number_of(moment), asked, user, window),
-    )
+    conclude(answer, initial_ticket(moment.next, asked, user, window))
 }
 
 // Kind 2 to a service, once the TGT is found good.
@@ -108,14 +104,7 @@ fn finish_direct(
     let answer = check_service(service.account, check_last(moment, window));
     conclude(
         answer,
-        direct_ticket(
-            number_of(moment),
-            asked,
-            tgt,
-            client,
-            service.number,
-            window,
-        ),
+        direct_ticket(moment.next, asked, tgt, client, service.number, window),
     )
 }
 
@@ -139,7 +128,7 @@ fn finish_s4u2self(
     );
     conclude(
         answer,
-        s4u2self_ticket(number_of(moment), asked, tgt, service1, user, window),
+        s4u2self_ticket(moment.next, asked, tgt, service1, user, window),
     )
 }
 
@@ -168,7 +157,7 @@ fn finish_s4u2proxy(
     }
     conclude(
         answer,
-        s4u2proxy_ticket(number_of(moment), tgt, evidence, service2.number, window),
+        s4u2proxy_ticket(moment.next, tgt, evidence, service2.number, window),
     )
 }
 

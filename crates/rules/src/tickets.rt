@@ -4,27 +4,18 @@ use crate::accounts::is_trusted;
 use crate::options::flags_of;
 use crate::options::is_forwardable;
 use definitions::Account;
-use definitions::Moment;
 use definitions::Named;
 use definitions::Origin;
 use definitions::Principal;
 use definitions::TRAIL_LIMIT;
-use definitions::TWO_16;
 use definitions::Ticket;
 use definitions::Window;
 use record::both;
 use record::either;
 ghost use mathlib.Core.Path.{_≡_};
-ghost use Prim.Native.Nat.{_<_, _≤_};
-ghost use Rattle.definitions.specs.Limits.{trailLimit, lastNumber};
+ghost use Prim.Native.Nat.{_<_};
+ghost use Rattle.definitions.specs.Limits.{trailLimit};
 ghost use Rattle.definitions.specs.NewTickets.{withoutTrail, directMark, s4u2selfForwardable, initialTicket, directTicket, s4u2selfTicket, s4u2proxyTicket};
-
-// The number of a new ticket: the next one. Where none is left, 29 refuses, and any will do.
-pub(crate) fn number_of(moment: Moment) -> u16
-    ensures { λ r. ⌜ (moment .next ≤ lastNumber → r ≡ moment .next) ⌝ }
-{
-    (moment.next % TWO_16) as u16
-}
 
 // A ticket that came by no hop.
 fn without_trail(
