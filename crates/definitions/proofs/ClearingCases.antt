@@ -1,10 +1,11 @@
 -- Cases of clearing and of the next number (R5.10, R6.7, R7.6, R8.5), over the definitions, by evaluation.
 -- Assumes nothing.
-use mathlib.Core.Path.{_≡_, refl}
+use mathlib.Core.Path.{_≡_, refl, ap}
 use mathlib.Core.Bool.{true, false}
-use mathlib.Core.List.{List, [], _∷_, _++_, map}
-use mathlib.Core.Option.{none}
+use mathlib.Core.List.{List, [], _∷_, _++_, map, List·Memᴰ·head}
+use mathlib.Core.Option.{Option, some, none}
 use Prim.Native.Nat.{ℕ}
+use native.Mathlib.Omega.{arith}
 use lib.ListN.{length, replicate, set, drop}
 use Rattle.definitions.specs.Limits.{ledgerSize, nextWord, ticketLimit, lastNumber}
 use Rattle.definitions.specs.Errors.{answerNumber}
@@ -31,8 +32,9 @@ use Rattle.definitions.specs.Answers.{Call, edit, request, clear, Reply,
 use Rattle.definitions.specs.Book.{Book, tickets, emptyBook, after, replies}
 use Rattle.definitions.specs.Services.{freshService}
 use Rattle.definitions.specs.History.{serviceAfter, repliesTo}
-use Rattle.definitions.specs.Demand.{Grant, granted, grantTicket, isLeft, uncleared}
-use Rattle.definitions.specs.declared.ticket.Origin.the-variants.{Initial, Direct}
+use Rattle.definitions.specs.Demand.{Grant, granted, grantTicket, isLeft, uncleared, Supported}
+use Rattle.definitions.specs.LawfulDescent.{restsOn}
+use Rattle.definitions.specs.declared.ticket.Origin.the-variants.{Initial, Direct, S4U2self, Delegated}
 use Rattle.definitions.specs.declared.ticket.Ticket.{Ticket}
 use Rattle.definitions.proofs.DecisionCases.{tech, store}
 use Rattle.definitions.proofs.CaseValues.{ticket, accounts, nothing, request-1, request-2}
@@ -125,6 +127,7 @@ pub record ClearingCases : Type 0 where
   -- 65535 is given; then 29, also where all places are free again
   pub last-given : map seen (replies (book-from lastNumber) (sign-on 5 ∷ sign-on 5 ∷ clear 105 ∷ sign-on 5 ∷ [])) ≡ (0 ∷ 65535 ∷ 0 ∷ []) ∷ (29 ∷ 0 ∷ 0 ∷ []) ∷ (0 ∷ 0 ∷ 1 ∷ []) ∷ (29 ∷ 0 ∷ 0 ∷ []) ∷ []
   pub last-stored : map (λ number. nextNumber (storeTicket (set noTicketWords nextWord number) tgt)) (0 ∷ 65535 ∷ []) ≡ 1 ∷ 65536 ∷ []
+  pub rests : map restsOn (Initial ∷ Direct 3 ∷ S4U2self 4 ∷ Delegated 5 6 ∷ []) ≡ [] ∷ (3 ∷ []) ∷ (4 ∷ []) ∷ (5 ∷ 6 ∷ []) ∷ []
   pub last-kept : nextNumber (clearTickets (set noTicketWords nextWord 65536) 4294967295) ≡ 65536
 
 pub clearing-cases : ClearingCases
@@ -153,5 +156,21 @@ clearing-cases =
       together-uncleared = refl;
       last-given = refl;
       last-stored = refl;
+      rests = refl;
       last-kept = refl;
     }
+
+-- R9.3: a ticket whose TGT is not in the ledger, or ends earlier, is not supported there
+pub without-tgt : Supported (on-tgt ∷ []) on-tgt → ⊥
+without-tgt s =
+    let e : _≡_ {A = Option Ticket} none (some (s 0 (List·Memᴰ·head refl) .ticket)) = s 0 (List·Memᴰ·head refl) .there in
+    let z : _≡_ {A = ℕ} 0 1 = cc in
+    omega arith
+
+pub on-earlier-tgt : Supported (lasting 0 5 104 ∷ on-tgt ∷ []) on-tgt → ⊥
+on-earlier-tgt s =
+    let p = s 0 (List·Memᴰ·head refl) in
+    let e : some (lasting 0 5 104) ≡ some (p .ticket) = p .there in
+    let f : lasting 0 5 104 ≡ p .ticket = cc in
+    let g : 104 ≡ p .ticket .window .end = ap (λ (t : Ticket). t .window .end) f in
+    omega (arith, p .no-earlier)

@@ -4,7 +4,7 @@ use mathlib.Core.Path.{_≡_, refl, sym, ap, _∙_}
 use mathlib.Core.List.{List, [], _∷_, _++_, map}
 use Prim.Native.Nat.{ℕ, suc, _+_}
 use native.Mathlib.Omega.{arith}
-use lib.ListN.{length, length-append, take, set}
+use lib.ListN.{length, take, set}
 use native.Mathlib.Nat.{add-zero, add-suc, suc-add}
 use lib.Seq.{sets, set-comm}
 
@@ -27,6 +27,3 @@ sets-last l i (u ∷ us) v =
 pub take-front : (xs ys : List ℕ) → take (length xs) (xs ++ ys) ≡ xs
 take-front [] ys = refl
 take-front (x ∷ xs) ys = ap (λ (l : List ℕ). x ∷ l) (take-front xs ys)
-
-pub snoc-length : {A : Type 0} (xs : List A) (x : A) → suc (length xs) ≡ length (xs ++ (x ∷ []))
-snoc-length xs x = omega (arith, length-append xs (x ∷ []))

@@ -2,14 +2,15 @@
 -- Assumes nothing.
 use mathlib.Core.Path.{_≡_, refl, sym, ap, ap₂, _∙_}
 use mathlib.Core.Bool.{Bool, true, false}
+use mathlib.Core.Logic.{⊎-elim}
 use mathlib.Core.List.{List, [], _∷_, _++_, append-nil}
 use Prim.Native.Nat.{ℕ, zero, suc, _+_, _-_, _*_, _/_, _%_, _^_, _≤_, _<_}
-use native.Mathlib.Nat.{zero-add, mod-eq-of-lt, lt-of-le-of-lt, div-mul-le-self}
+use native.Mathlib.Nat.{zero-add, add-zero, mod-eq-of-lt, lt-of-le-of-lt, eq-or-lt-of-le, div-mul-le-self}
 use native.Mathlib.Numerals.{add-one}
 use native.Mathlib.Omega.{arith}
 use lib.Dec.{eqb, ltb}
 use lib.Pow.{shr-shr, shr-lt, high}
-use lib.ListN.{length, getD, set, replicate, length-append}
+use lib.ListN.{length, getD, set, replicate, length-append, length-replicate, replicate-append-replicate}
 use lib.Seq.{getD-set-same, getD-set-other, set-getD, set-set, set-out}
 use borrow.Author.Tests.{eqb-true, eqb-false, ltb-true, ltb-false}
 use Rattle.definitions.specs.Limits.{ticketLimit, countWord, numberBits, numbersInWord, numbersStart, placesStart, placeSize, two16, two48}
@@ -20,7 +21,7 @@ use Rattle.definitions.specs.ClearedWords.{placesFrom, heldPlaces, freePlace, p
 use Rattle.definitions.proofs.Words.{put-other, row-set, row-lane}
 use Rattle.definitions.proofs.Clearing.{only-append}
 use Rattle.definitions.proofs.ClearedWords.{put-append, places-length, places-more, places-again, staying-few, behind-kept, gone-places}
-use Rattle.ledger.specs.ClosingUp.{lanesOver, keptIn, openWord, settled, AllStay, Closed}
+use Rattle.ledger.specs.ClosingUp.{lanesOver, keptIn, openWord, settled, AllStay, AllGo, Closed}
 use Rattle.ledger.specs.declared.clearing.Closing.{Closing}
 
 -- ---- A word of numbers with lanes of another's
@@ -210,6 +211,10 @@ staying-all w clock (suc n) h =
       zero-add,
     )
 
+-- places that all go, and one before them
+pub all-go-more : (w : List ℕ) (clock i n : ℕ) → AllGo w clock i n → stays clock (ticketAt w (i - 1)) ≡ false → AllGo w clock (i - 1) n
+all-go-more w clock i n h g k a b = ⊎-elim (λ e. rw e at g) (λ l. h k (omega arith) b) (eq-or-lt-of-le a)
+
 -- where all stay, the words are closed up as they are
 pub closed-start : (w : List ℕ) (clock n : ℕ) → n % numbersInWord ≡ 0 → AllStay w clock n → Closed w clock n w (record { at = placeSize * n; numbers = 0 })
 closed-start w clock n e h =
@@ -217,6 +222,29 @@ closed-start w clock n e h =
       count = sym (ap (λ (cs : List Place). placeSize * length cs) (staying-all w clock n h) ∙ ap (λ (k : ℕ). placeSize * k) (places-length w 0 n));
       words = settled-full w (record { at = placeSize * n; numbers = 0 }) (omega arith) (omega arith) ∙ sym (ap (putPlaces w 0) (staying-all w clock n h) ∙ places-again w 0 n);
     }
+
+-- a place more whose ticket goes
+closed-on : (w : List ℕ) (clock i : ℕ) (v : List ℕ) (closing : Closing) → Closed w clock i v closing → stays clock (ticketAt w i) ≡ false
+    → Closed w clock (i + 1) v closing
+unfolding ticketAt
+closed-on w clock i v closing c g =
+    let e : staying ticketOn clock (placesFrom w 0 (i + 1)) ≡ staying ticketOn clock (placesFrom w 0 i) =
+    staying-more w clock i ∙ rw g (append-nil (staying ticketOn clock (placesFrom w 0 i)))
+    in
+    record { count = rw e (c .count); words = rw e (c .words) }
+
+-- some more whose tickets all go
+closed-some : (w : List ℕ) (clock i m : ℕ) (v : List ℕ) (closing : Closing) → Closed w clock i v closing → AllGo w clock i (i + m) → Closed w clock (i + m) v closing
+closed-some w clock i zero v closing c h = rw add-zero c
+closed-some w clock i (suc m) v closing c h =
+    let e : i + suc m ≡ i + m + 1 = omega arith in
+    rw e
+    (closed-on w clock (i + m) v closing (closed-some w clock i m v closing c (λ k a b. h k a (omega arith))) (h (i + m) (omega arith) (omega arith)))
+
+pub closed-past : (w : List ℕ) (clock i n : ℕ) (v : List ℕ) (closing : Closing) → i ≤ n → Closed w clock i v closing → AllGo w clock i n → Closed w clock n v closing
+closed-past w clock i n v closing l c h =
+    let e : i + (n - i) ≡ n = omega arith in
+    rw e at (closed-some w clock i (n - i) v closing c (rw e h))
 
 module _ (w : List ℕ) (clock i : ℕ) (v : List ℕ) (closing : Closing) (fits : closing .numbers < 2 ^ 64) (c : Closed w clock i v closing) where
   -- what the places to come have is there still
@@ -238,11 +266,7 @@ module _ (w : List ℕ) (clock i : ℕ) (v : List ℕ) (closing : Closing) (fits
   pub closed-gone : i < ticketLimit → stays clock (ticketAt v i) ≡ false → Closed w clock (i + 1) v closing
   unfolding ticketAt
   closed-gone l g =
-      let q : stays clock (ticketOn (placeAt w i)) ≡ false = ap (λ (p : Place). stays clock (ticketOn p)) (sym (closed-read i (omega arith) l)) ∙ g in
-      let e : staying ticketOn clock (placesFrom w 0 (i + 1)) ≡ staying ticketOn clock (placesFrom w 0 i) =
-      staying-more w clock i ∙ rw q (append-nil (staying ticketOn clock (placesFrom w 0 i)))
-      in
-      record { count = rw e (c .count); words = rw e (c .words) }
+      closed-on w clock i v closing c (ap (λ (p : Place). stays clock (ticketOn p)) (sym (closed-read i (omega arith) l)) ∙ g)
 
   -- a place whose ticket stays
   pub closed-kept : i < ticketLimit → stays clock (ticketAt v i) ≡ true → (number : ℕ) → number ≡ placeAt w i .number → (after : List ℕ) (later : Closing)
@@ -266,20 +290,19 @@ module _ (w : List ℕ) (clock i : ℕ) (v : List ℕ) (closing : Closing) (fits
       }
 
 -- ---- The places set free behind those kept
--- one of them
-pub free-more : (w : List ℕ) (at n : ℕ) → at < n
-    → putPlaces w at (replicate (n - at) freePlace) ≡ putPlaces (putPlace w at freePlace) (at + 1) (replicate (n - (at + 1)) freePlace)
-unfolding putPlaces
-free-more w at n h =
-    let e : n - at ≡ suc (n - (at + 1)) = omega arith in
-    rw e
+-- some, and others behind them
+pub free-on : (w v : List ℕ) (at next m n all : ℕ) → v ≡ putPlaces w at (replicate m freePlace) → next ≡ at + m → all ≡ m + n
+    → putPlaces v next (replicate n freePlace) ≡ putPlaces w at (replicate all freePlace)
+free-on w v at next m n all e f g =
+    let more = replicate n freePlace in
+    ap₂ (λ (l : List ℕ) (k : ℕ). putPlaces l k more) e (f ∙ ap (λ (k : ℕ). at + k) (sym (length-replicate m freePlace)))
+    ∙ sym (put-append w at (replicate m freePlace) more) ∙ ap (putPlaces w at) (replicate-append-replicate m n freePlace ∙ rw g)
 
--- none is left
-pub free-end : (w : List ℕ) (at n : ℕ) → n ≤ at → putPlaces w at (replicate (n - at) freePlace) ≡ w
+-- one more
+pub free-more : (w v : List ℕ) (at next m : ℕ) → v ≡ putPlaces w at (replicate m freePlace) → next ≡ at + m
+    → putPlace v next freePlace ≡ putPlaces w at (replicate (m + 1) freePlace)
 unfolding putPlaces
-free-end w at n h =
-    let e : n - at ≡ 0 = omega arith in
-    rw e
+free-more w v at next m e f = free-on w v at next m 1 (m + 1) e f refl
 
 -- ---- The words after a clearing
 module _ (w : List ℕ) (clock : ℕ) where

@@ -3,7 +3,7 @@
 -- Assumes nothing.
 use Prim.Native.Nat.{ℕ, _+_, _-_, _*_, _/_, _%_, _^_, _≤_, _<_}
 use mathlib.Core.Path.{_≡_}
-use mathlib.Core.Bool.{true}
+use mathlib.Core.Bool.{true, false}
 use mathlib.Core.List.{List}
 use lib.ListN.{length, getD, set}
 use Rattle.definitions.specs.Limits.{numberBits, numbersInWord, numbersStart, placeSize}
@@ -36,6 +36,10 @@ settled words closing =
 -- the tickets at the first places all stay
 abbrev pub AllStay : List ℕ → ℕ → ℕ → Type 0
 AllStay words clock n = (place : ℕ) → place < n → stays clock (ticketAt words place) ≡ true
+
+-- those at the places from one on up to another all go
+abbrev pub AllGo : List ℕ → ℕ → ℕ → ℕ → Type 0
+AllGo words clock from to = (place : ℕ) → from ≤ place → place < to → stays clock (ticketAt words place) ≡ false
 
 -- the first n places of the words before are closed up in those after
 pub record Closed (before : List ℕ) (clock n : ℕ) (after : List ℕ) (closing : Closing) : Type 0 where

@@ -1,5 +1,6 @@
-// Clearing out ended tickets (R7.6). Up to the first that goes nothing is written. From there on the places that stay are closed up in one
-// pass, by the four whose numbers stand in one word; the numbers kept last wait until their word is full.
+// Clearing out ended tickets (R7.6). Up to the first that goes nothing is written. From there up to the last that stays the places are closed
+// up in one pass, by the four whose numbers stand in one word; the numbers kept last wait until their word is full. The places behind those
+// kept are set free, by fours too.
 use crate::words::LedgerWords;
 use crate::words::count_held;
 use crate::words::move_place;
@@ -18,15 +19,15 @@ ghost use mathlib.Core.Path.{_≡_};
 ghost use mathlib.Core.List.{List};
 ghost use Prim.Native.Nat.{ℕ, _+_, _-_, _*_, _%_, _<_, _≤_};
 ghost use lib.ListN.{length, replicate};
-ghost use Rattle.definitions.specs.Limits.{ticketLimit, numberBits, numbersInWord, numbersStart, placeSize};
+ghost use Rattle.definitions.specs.Limits.{ticketLimit, numberBits, numbersInWord, numberWords, numbersStart, placeSize};
 ghost use Rattle.definitions.specs.Words.{putLane};
 ghost use Rattle.definitions.specs.LedgerWords.{placeAt, putPlace, ticketOn, ticketAt, countHeld, ticketsOf};
 ghost use Rattle.definitions.specs.Clearing.{stays, staying, gone};
 ghost use Rattle.definitions.specs.ClearedWords.{heldPlaces, freePlace, putPlaces, closedUp, clearTickets};
-ghost use Rattle.ledger.specs.ClosingUp.{lanesOver, keptIn, Within, settled, AllStay, Closed};
+ghost use Rattle.ledger.specs.ClosingUp.{lanesOver, keptIn, Within, settled, AllStay, AllGo, Closed};
 
-// How far the places are closed up: the word of the places at which the next is kept, and the last four numbers kept, the last of them on
-// top. Those that do not fill a word wait.
+// How far the places are closed up: how many words the places kept have, and the last four numbers kept, the last of them on top. Those that
+// do not fill a word wait.
 pub struct Closing {
     pub at: usize,
     pub numbers: u64,
@@ -55,6 +56,22 @@ fn first_ended(words: &LedgerWords, n: usize, clock: u32) -> usize
         i += 1;
     }
     i
+}
+
+// Behind the last place of n whose ticket stays, of those from one on; that one where none does.
+fn end_of_staying(words: &LedgerWords, from: usize, n: usize, clock: u32) -> usize
+    requires { ⌜ (from ≤ n) × (n ≤ ticketLimit) ⌝ }
+    ensures bounded { λ r. ⌜ (from ≤ r) × (r ≤ n) ⌝ }
+    ensures passed { λ r. ⌜ AllGo (now (words .entry)) clock r n ⌝ }
+{
+    let mut end = n;
+    while from < end {
+        if stays_at(words, end - 1, clock) {
+            return end;
+        }
+        end -= 1;
+    }
+    end
 }
 
 // Takes in one number more; a word that it fills is put.
@@ -148,17 +165,65 @@ fn free_place(words: &mut LedgerWords, closing: Closing) -> Closing
     push_number(words, closing, 0)
 }
 
-// Sets the places behind those kept free, up to n.
+// Sets some places free behind those kept.
+fn free_some(words: &mut LedgerWords, begun: Closing, m: usize) -> Closing
+    requires { ⌜ (begun .at % placeSize ≡ 0) × (begun .at + placeSize * m ≤ placeSize * ticketLimit) ⌝ }
+    ensures more { λ r. ⌜ r .at ≡ begun .at + placeSize * m ⌝ }
+    ensures put { λ r. ⌜ settled (now (words .exit)) r ≡ putPlaces (settled (now (words .entry)) begun) (keptIn begun) (replicate m freePlace) ⌝ }
+{
+    let mut closing = begun;
+    let mut i = 0;
+    while i < m {
+        closing = free_place(words, closing);
+        i += 1;
+    }
+    closing
+}
+
+// Sets the places free whose numbers stand in the words from one on up to another.
+fn free_words(words: &mut LedgerWords, from: usize, to: usize)
+    requires { ⌜ (from ≤ to) × (to ≤ numberWords) ⌝ }
+    ensures { λ _. ⌜ now (words .exit) ≡ putPlaces (now (words .entry)) (numbersInWord * from) (replicate (numbersInWord * (to - from)) freePlace) ⌝ }
+{
+    let mut k = from;
+    while k < to {
+        let closing = Closing {
+            at: PLACE_SIZE * NUMBERS_IN_WORD * k,
+            numbers: 0,
+        };
+        free_some(words, closing, NUMBERS_IN_WORD);
+        k += 1;
+    }
+}
+
+// Sets the places behind those kept free, up to a word of numbers: one by one those of the word at which the kept end, then by whole words.
+fn free_up_to(words: &mut LedgerWords, begun: Closing, to: usize)
+    requires { ⌜ Within begun (numbersInWord * to) × (to ≤ numberWords) ⌝ }
+    ensures { λ _. ⌜ now (words .exit) ≡ putPlaces (settled (now (words .entry)) begun) (keptIn begun) (replicate (numbersInWord * to - keptIn begun) freePlace) ⌝ }
+{
+    let kept = begun.at / PLACE_SIZE;
+    let from = (kept + NUMBERS_IN_WORD - 1) / NUMBERS_IN_WORD;
+    free_some(words, begun, NUMBERS_IN_WORD * from - kept);
+    free_words(words, from, to);
+}
+
+// Sets the places behind those kept free, up to n: by whole words of numbers, and then those of the last word.
 fn free_places(words: &mut LedgerWords, begun: Closing, n: usize) -> Closing
     requires { ⌜ Within begun n × (n ≤ ticketLimit) ⌝ }
     ensures all { λ r. ⌜ r .at ≡ placeSize * n ⌝ }
     ensures put { λ r. ⌜ settled (now (words .exit)) r ≡ putPlaces (settled (now (words .entry)) begun) (keptIn begun) (replicate (n - keptIn begun) freePlace) ⌝ }
 {
-    let mut closing = begun;
-    while closing.at < PLACE_SIZE * n {
-        closing = free_place(words, closing);
+    let kept = begun.at / PLACE_SIZE;
+    let whole = n - n % NUMBERS_IN_WORD;
+    if whole < kept {
+        return free_some(words, begun, n - kept);
     }
-    closing
+    free_up_to(words, begun, whole / NUMBERS_IN_WORD);
+    let closing = Closing {
+        at: PLACE_SIZE * whole,
+        numbers: 0,
+    };
+    free_some(words, closing, n - whole)
 }
 
 // A word of numbers, some of its first lanes as the last of another's.
@@ -192,7 +257,8 @@ fn close_places(words: &mut LedgerWords, from: usize, n: usize, clock: u32) -> u
     ensures kept { λ r. ⌜ r ≡ length (staying ticketOn clock (heldPlaces (now (words .entry)))) ⌝ }
     ensures put { λ _. ⌜ now (words .exit) ≡ putPlaces (now (words .entry)) 0 (closedUp clock (heldPlaces (now (words .entry)))) ⌝ }
 {
-    let closing = close_up(words, from, n, clock);
+    let end = end_of_staying(words, from, n, clock);
+    let closing = close_up(words, from, end, clock);
     let kept = closing.at / PLACE_SIZE;
     let all = free_places(words, closing, n);
     settle(words, all);

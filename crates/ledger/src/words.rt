@@ -1,6 +1,6 @@
-// The ledger's words: a header with the count and the next number; the tickets' numbers, four a word; and four words for each place: flags, client, service, hops,
-// the origin's tag and the barred mark; start and end; the back numbers; the trail, its first byte lowest (R7.1). Offsets are seen here and
-// nowhere else.
+// The ledger's words: a header with the count and the next number; the tickets' numbers, four a word; and four words for each place: flags,
+// client, service, hops, the origin's tag and the barred mark; start and end; the back numbers; the trail, its first byte lowest (R7.1). Where
+// these stand is seen here and nowhere else.
 use definitions::BACK_WORD;
 use definitions::COUNT_WORD;
 use definitions::LEDGER_SIZE;
