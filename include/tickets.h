@@ -119,7 +119,7 @@ uint32_t tickets_edit(uint64_t *accounts, uint32_t number, const uint8_t *name, 
 tickets_answer tickets_request(uint64_t *accounts, uint64_t *ledger, const uint8_t *request, size_t request_len, uint32_t clock,
                                uint8_t *output, size_t output_len);
 
-/* Takes every ticket whose end is `clock` or earlier out of the ledger, and answers how many it took out, 0 to 512 (R7.6). It is never refused.
+/* Takes every ticket whose end is `clock` or earlier out of the ledger, and answers how many those were, 0 to 512 (R7.6). It is never refused.
  * The tickets that stay close up in their order, and the places behind them serve later grants. What went is not held any more: a request
  * that presents it is answered 41, and so is its descent. Whatever a ticket that stays rests on stays too, since it ends no earlier. Numbers
  * go on rising: none is given twice. The accounts' words are as before; they are lent to be written all the same.

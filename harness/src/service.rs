@@ -50,7 +50,7 @@ impl Service {
     }
 
     /// R7.6: a clearing. Out goes every held ticket whose end the clock has reached; the others stay
-    /// in their order. It answers how many it took out.
+    /// in their order. The answer is how many went.
     pub fn clear(&mut self, clock: u32) -> u32 {
         self.ledger.truncate(TICKET_LIMIT);
         let held = self.ledger.len();
