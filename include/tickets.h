@@ -124,7 +124,7 @@ tickets_answer tickets_request(uint64_t *accounts, uint64_t *ledger, const uint8
  * that presents it is answered 41, and so is its descent. Whatever a ticket that stays rests on stays too, since it ends no earlier. Numbers
  * go on rising: none is given twice. The accounts' words are as before; they are lent to be written all the same.
  *
- * Of the ledger's words it writes the count, the places from the first that goes on up to the last one held, and the numbers of these;
+ * Of the ledger's words it changes the count, the places from the first that goes on up to the last one held, and the numbers of these;
  * places set free have 0 in all their words. */
 uint32_t tickets_clear(uint64_t *accounts, uint64_t *ledger, uint32_t clock);
 

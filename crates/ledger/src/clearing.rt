@@ -1,6 +1,6 @@
-// Clearing out ended tickets (R7.6). Up to the first that goes nothing is written. From there up to the last that stays the places are closed
-// up in one pass, by the four whose numbers stand in one word; the numbers kept last wait until their word is full. The places behind those
-// kept are set free, by fours too.
+// Clearing out ended tickets (R7.6). Where none goes, no place is written. Else the places are closed up in one pass, from the four on whose
+// numbers stand in one word with that of the first that goes, up to the last that stays; the numbers kept last wait until their word is full.
+// The places behind those kept are set free, by fours too.
 use crate::words::LedgerWords;
 use crate::words::count_held;
 use crate::words::move_place;
