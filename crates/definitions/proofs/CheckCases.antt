@@ -7,7 +7,7 @@ use mathlib.Core.List.{List, [], _∷_, _++_, map}
 use Prim.Native.Nat.{ℕ}
 use lib.ListN.{replicate, length}
 use Rattle.definitions.specs.Errors.{answerNumber}
-use Rattle.definitions.specs.Validity.{validAt, notYet, ended}
+use Rattle.definitions.specs.Validity.{notYet, ended}
 use Rattle.definitions.specs.Equality.{sameList, sameTicket}
 use Rattle.definitions.specs.Fields.{hasBit, numberAt, bigEndian, run, pastField, offsetOf, fieldOf, fieldBytes, bytesTo}
 use Rattle.definitions.specs.TicketRecords.{knownMap, hopsFit, readableAs, originAs, trailOf, readTicket, recordAs}
@@ -164,7 +164,6 @@ pub record CheckCases : Type 0 where
   pub lives-3 : lives (request-3 nothing nothing (tgt 5000) tech) ≡ 0 ∷ 11 ∷ 0 ∷ []
   pub lives-4 : lives (request-4 cname nothing nothing (tgt 5000) (evidence 5000) store) ≡ 0 ∷ 0 ∷ 11 ∷ []
   -- R5.2: valid from the start on and before the end
-  pub valid : map (validAt (record { start = 5; end = 7 })) (4 ∷ 5 ∷ 6 ∷ 7 ∷ []) ≡ false ∷ true ∷ true ∷ false ∷ []
   pub not-yet : map (notYet (record { start = 5; end = 7 })) (4 ∷ 5 ∷ 6 ∷ 7 ∷ []) ≡ true ∷ false ∷ false ∷ false ∷ []
   pub has-ended : map (ended (record { start = 5; end = 7 })) (4 ∷ 5 ∷ 6 ∷ 7 ∷ []) ≡ false ∷ false ∷ false ∷ true ∷ []
   pub tgt-window : map (answer-2 (tgt 5000 ∷ []) (tgt 5000)) (499 ∷ 500 ∷ 4999 ∷ 5000 ∷ []) ≡ 33 ∷ 0 ∷ 0 ∷ 32 ∷ []
@@ -210,7 +209,6 @@ check-cases =
       lives-2 = refl;
       lives-3 = refl;
       lives-4 = refl;
-      valid = refl;
       not-yet = refl;
       has-ended = refl;
       tgt-window = refl;

@@ -14,11 +14,10 @@ use definitions::Ticket;
 use definitions::Window;
 use record::both;
 use record::is_accepted;
-ghost use mathlib.Core.Bool.{not, cond};
+ghost use mathlib.Core.Bool.{cond};
 ghost use mathlib.Core.Path.{_≡_};
 ghost use Rattle.definitions.specs.Checks.{andThen, judge};
-ghost use Rattle.definitions.specs.Validity.{notYet, ended};
-ghost use Rattle.definitions.specs.Decisions.{isInitial, openingChecks, tgtChecks, evidenceChecks, serviceCheck, userChecks, hopChecks, lastChecks};
+ghost use Rattle.definitions.specs.Decisions.{isInitial, openingChecks, windowChecks, tgtChecks, evidenceChecks, serviceCheck, userChecks, hopChecks, lastChecks};
 
 // What comes after a check that holds, or its refusal.
 pub(crate) fn unless(holds: bool, error: Error, rest: Answer) -> Answer
@@ -63,16 +62,13 @@ fn is_initial(origin: Origin) -> bool
 
 // The checks of a presented ticket's window: 33, 32; then what comes after them.
 fn check_window(window: Window, clock: u32, rest: Answer) -> Answer
-    ensures { λ r. ⌜ r ≡ cond (not (notYet window clock)) (cond (not (ended window clock)) rest (Answer.Refused Error.«KRB_AP_ERR_TKT_EXPIRED»)) (Answer.Refused Error.«KRB_AP_ERR_TKT_NYV») ⌝ }
+    ensures { λ r. ⌜ r ≡ andThen (judge (windowChecks clock window)) rest ⌝ }
 {
-    if window.valid_at(clock) {
-        return rest;
-    }
-    if window.not_yet(clock) {
-        Answer::Refused(Error::KRB_AP_ERR_TKT_NYV)
-    } else {
-        Answer::Refused(Error::KRB_AP_ERR_TKT_EXPIRED)
-    }
+    unless(
+        !window.not_yet(clock),
+        Error::KRB_AP_ERR_TKT_NYV,
+        unless(!window.ended(clock), Error::KRB_AP_ERR_TKT_EXPIRED, rest),
+    )
 }
 
 // The checks of the TGT: 41; 35; 33 and 32; 18.

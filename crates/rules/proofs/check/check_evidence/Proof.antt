@@ -1,4 +1,5 @@
 use Rattle.definitions.specs.Decisions.{evidenceChecks}
+use Rattle.definitions.proofs.Checks.{unless-then}
 use borrow.Author.Needs.{needs}
 use Rattle.rules.proofs.check.check_evidence.Statement.{statement}
 use Rattle.rules.proofs.check.check_evidence.Tie as tie
@@ -6,7 +7,7 @@ use Rattle.rules.proofs.check.check_evidence.Tie as tie
 returns : tie.Need-returns
 unfolding evidenceChecks
 returns c =
-    simp (c .unless3 .ensures, c .before .check-window .ensures, c .before .before .unless2 .ensures, c .before .before .before .both .ensures, c .before .before .before .before .before .is-initial .ensures, c .before .before .before .before .before .before .unless .ensures, c .before .before .before .before .before .before .before .is-enabled .ensures)
+    simp (unless-then, c .unless3 .ensures, c .before .check-window .ensures, c .before .before .unless2 .ensures, c .before .before .before .both .ensures, c .before .before .before .before .before .is-initial .ensures, c .before .before .before .before .before .before .unless .ensures, c .before .before .before .before .before .before .before .is-enabled .ensures)
 
 pub check-evidence-spec : {M : Type 1} → statement M
 check-evidence-spec =

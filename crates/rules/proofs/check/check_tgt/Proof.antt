@@ -1,3 +1,4 @@
+use Rattle.definitions.proofs.Checks.{unless-then}
 use borrow.Author.Needs.{needs}
 use Rattle.rules.proofs.check.check_tgt.Statement.{statement}
 use Rattle.rules.proofs.check.check_tgt.Tie as tie
@@ -6,7 +7,7 @@ use Rattle.definitions.specs.Decisions.{tgtChecks}
 returns : tie.Need-returns
 unfolding tgtChecks
 returns c =
-    simp (c .unless3 .ensures, c .before .unless2 .ensures, c .before .before .is-initial .ensures, c .before .before .before .check-window .ensures, c .before .before .before .before .unless .ensures, c .before .before .before .before .before .is-enabled .ensures)
+    simp (unless-then, c .unless3 .ensures, c .before .unless2 .ensures, c .before .before .is-initial .ensures, c .before .before .before .check-window .ensures, c .before .before .before .before .unless .ensures, c .before .before .before .before .before .is-enabled .ensures)
 
 pub check-tgt-spec : {M : Type 1} → statement M
 check-tgt-spec =
