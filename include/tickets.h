@@ -106,9 +106,10 @@ uint32_t tickets_edit(uint64_t *accounts, uint32_t number, const uint8_t *name, 
  *
  *   60                  the request is unreadable (see tickets_read_request)
  *   52                  `output_len` is under TICKETS_LONGEST_RECORD
- *   41, 35, 33, 32, 18  the TGT: not held, or not as it is held; not an initial ticket; not yet valid; expired; its client is disabled
- *   41, 33, 32, 26, 18  the evidence: not held, or not as it is held; not yet valid; expired; its service is not the TGT's client, or it
- *                       has none; its client is disabled
+ *   41, 35, 33, 32, 18  the TGT: not held, or not as it is held; not an initial ticket; its start is more than 300 seconds after `clock`; its
+ *                       end is `clock` or earlier; its client is disabled
+ *   41, 33, 32, 26, 18  the evidence: not held, or not as it is held; its start is more than 300 seconds after `clock`; its end is `clock` or
+ *                       earlier; its service is not the TGT's client, or it has none; its client is disabled
  *   7                   the service that is named is unknown, disabled or without TICKETS_FLAG_SERVICE; for kind 3, which names none, the
  *                       TGT's client is without that flag
  *   6, 18               the user that is named is unknown; the user is disabled

@@ -1,7 +1,9 @@
 //! The four decisions (R5.1 to R5.10) and the checks of a request in their order (R6.1 to R6.7).
 
 use crate::accounts::Table;
-use crate::limits::{LAST_NUMBER, LAST_SECOND, LONGEST_RECORD, TICKET_LIMIT, TRAIL_LIMIT};
+use crate::limits::{
+    CLOCK_SKEW, LAST_NUMBER, LAST_SECOND, LONGEST_RECORD, TICKET_LIMIT, TRAIL_LIMIT,
+};
 use crate::record::{Error, Kind, Origin, Principal, Request, Ticket, NO_TRAIL};
 
 /// R3.4: the flags of a ticket. FORWARDABLE is an option of a request too.
@@ -86,10 +88,21 @@ fn check_held(presented: &Ticket, first: Option<&Ticket>) -> Result<(), Error> {
     ensure(first == Some(presented), Error::Modified)
 }
 
-/// R5.2: 33 before the ticket's start, 32 from its end on.
+/// R5.2: whether the ticket starts too far ahead of the clock. The sum has no ceiling: it may be past
+/// the last second.
+pub fn is_too_early(ticket: &Ticket, clock: u32) -> bool {
+    u64::from(ticket.start) > u64::from(clock) + u64::from(CLOCK_SKEW)
+}
+
+/// R5.2: whether the clock has reached the ticket's end, for which there is no allowance.
+pub fn has_ended(ticket: &Ticket, clock: u32) -> bool {
+    clock >= ticket.end
+}
+
+/// R5.2: 33 while the ticket's start is too far ahead, 32 from its end on.
 fn check_valid(ticket: &Ticket, clock: u32) -> Result<(), Error> {
-    ensure(ticket.start <= clock, Error::TktNyv)?;
-    ensure(clock < ticket.end, Error::TktExpired)
+    ensure(!is_too_early(ticket, clock), Error::TktNyv)?;
+    ensure(!has_ended(ticket, clock), Error::TktExpired)
 }
 
 /// 18 unless the client is enabled.
@@ -300,6 +313,7 @@ pub fn decide(request: &Request, moment: &Moment) -> Result<Ticket, Error> {
 #[cfg(test)]
 mod tests {
     use super::*;
+    use crate::book;
     use crate::fixtures::{edit, kind_1, kind_2, kind_3, kind_4, Asked, Day, LIFETIME};
     use crate::limits::ACCOUNT_LIMIT;
 
@@ -340,7 +354,7 @@ mod tests {
             (kind_4(&tgt, &evidence, "web"), 1010, 13),
             (kind_4(&tgt, &tgt, "store"), 1010, 26),
             (kind_2(&tgt, "store"), 37000, 32),
-            (kind_2(&tgt, "store"), 999, 33),
+            (kind_2(&tgt, "store"), 699, 33),
             (kind_2(&evidence, "store"), 1010, 35),
             (kind_2(&altered, "store"), 1010, 41),
         ] {
@@ -425,7 +439,8 @@ mod tests {
         let altered = Ticket { client: 2, ..evidence };
         assert_eq!(day.ask(&kind_2(&altered, "store"), 1010), Err(41));
         assert_eq!(day.ask(&kind_4(&evidence, &altered, "store"), 1010), Err(35));
-        assert_eq!(day.ask(&kind_4(&tgt, &altered, "store"), 999), Err(33));
+        assert_eq!(day.ask(&kind_4(&tgt, &altered, "store"), 699), Err(33));
+        assert_eq!(day.ask(&kind_4(&tgt, &altered, "store"), 700), Err(41));
         assert_eq!(day.ask(&kind_2(&evidence, "store"), 0), Err(35));
         day.set(1, "web", 13, 0x4, 0);
         assert_eq!(day.ask(&kind_2(&tgt, "ghost"), 37000), Err(32));
@@ -439,10 +454,121 @@ mod tests {
         let odd_tgt = Ticket { number: 70, start: 3000, end: 2000, ..tgt };
         let odd_evidence = Ticket { number: 71, start: 3000, end: 2000, ..evidence };
         day.service.ledger.extend([odd_tgt, odd_evidence]);
-        for (clock, number) in [(1999, 33), (2500, 33), (3000, 32)] {
+        // The end is reached from 2000 on, and the start is too far ahead up to 2699.
+        for (clock, number) in
+            [(1999, 33), (2000, 33), (2500, 33), (2699, 33), (2700, 32), (2999, 32), (3000, 32)]
+        {
             assert_eq!(day.ask(&kind_2(&odd_tgt, "store"), clock), Err(number));
             assert_eq!(day.ask(&kind_4(&tgt, &odd_evidence, "store"), clock), Err(number));
         }
+    }
+
+    /// The error number of a request at each of these clock readings, 0 for a grant.
+    fn errors<const N: usize>(day: &mut Day, request: &Asked, clocks: [u32; N]) -> [u8; N] {
+        clocks.map(|clock| day.ask(request, clock).map_or_else(|error| error, |_| 0))
+    }
+
+    #[test]
+    fn r5_2_a_tgt_passes_from_300_seconds_before_its_start() {
+        let (mut day, tgt, _) = two_tickets();
+        let clocks = [0, 698, 699, 700, 701, 999, 1000, 36999, 37000, 37300];
+        for request in [kind_2(&tgt, "store"), kind_3(&tgt, "tech")] {
+            assert_eq!(errors(&mut day, &request, clocks), [33, 33, 33, 0, 0, 0, 0, 0, 32, 32]);
+        }
+    }
+
+    #[test]
+    fn r5_2_evidence_passes_from_300_seconds_before_its_start() {
+        let (mut day, tgt, evidence) = two_tickets();
+        let clocks = [699, 700, 709, 710, 999, 1009, 1010, 36999, 37000];
+        let hop = kind_4(&tgt, &evidence, "store");
+        assert_eq!(errors(&mut day, &hop, clocks), [33, 33, 33, 0, 0, 0, 0, 0, 32]);
+        // At 700 the TGT passes, and 33 is for the evidence.
+        let altered = Ticket { client: 2, ..evidence };
+        let hop = kind_4(&tgt, &altered, "store");
+        assert_eq!(errors(&mut day, &hop, [699, 700, 709, 710]), [33, 41, 41, 41]);
+        // Evidence that starts earlier than the TGT does not help the TGT.
+        let early = day.grant(&kind_3(&tgt, "tech"), 700);
+        let hop = kind_4(&tgt, &early, "store");
+        assert_eq!(errors(&mut day, &hop, [399, 400, 699, 700]), [33, 33, 33, 0]);
+    }
+
+    #[test]
+    fn r5_2_the_sum_has_no_ceiling() {
+        let (mut day, tgt, evidence) = two_tickets();
+        let long = Ticket { number: 70, start: 0, end: LAST_SECOND, ..tgt };
+        let last_tgt = Ticket { number: 71, start: LAST_SECOND, ..long };
+        let last = Ticket { number: 72, start: LAST_SECOND, end: LAST_SECOND, ..evidence };
+        let open = Ticket { number: 73, start: 0, ..last };
+        day.service.ledger.extend([long, last_tgt, last, open]);
+        // From 4294966996 on the sum does not fit 32 bits.
+        let clocks = [4294966994, 4294966995, 4294966996, 4294967294, 4294967295];
+        for request in [
+            kind_2(&last_tgt, "store"),
+            kind_3(&last_tgt, "tech"),
+            kind_4(&last_tgt, &open, "store"),
+            kind_4(&long, &last, "store"),
+            kind_4(&last_tgt, &last, "store"),
+        ] {
+            assert_eq!(errors(&mut day, &request, clocks), [33, 0, 0, 0, 32], "{request:?}");
+        }
+        assert_eq!(errors(&mut day, &kind_4(&long, &open, "store"), clocks), [0, 0, 0, 0, 32]);
+    }
+
+    #[test]
+    fn r5_2_starts_near_0_and_near_the_last_second() {
+        let (mut day, tgt, _) = two_tickets();
+        for (start, clock, error) in [
+            (0, 0, 0),
+            (300, 0, 0),
+            (301, 0, 33),
+            (301, 1, 0),
+            (LAST_SECOND, 0, 33),
+            (LAST_SECOND - 1, LAST_SECOND - 301, 0),
+            (LAST_SECOND - 1, LAST_SECOND - 302, 33),
+            (LAST_SECOND - 1, LAST_SECOND - 2, 0),
+        ] {
+            let odd = Ticket { number: 70, start, end: LAST_SECOND, ..tgt };
+            day.service.ledger.truncate(2);
+            day.service.ledger.push(odd);
+            let answer = errors(&mut day, &kind_2(&odd, "store"), [clock]);
+            assert_eq!(answer, [error], "start {start} at {clock}");
+        }
+    }
+
+    #[test]
+    fn r5_2_ends_gain_nothing() {
+        let (mut day, tgt, evidence) = two_tickets();
+        let short = day.grant(&kind_3(&tgt, "tech").till(1100), 1010);
+        let clocks = [1099, 1100, 1101, 1400];
+        assert_eq!(errors(&mut day, &kind_4(&tgt, &short, "store"), clocks), [0, 32, 32, 32]);
+        let hop = kind_4(&tgt, &evidence, "store");
+        for request in [kind_1("web"), kind_2(&tgt, "store"), kind_3(&tgt, "tech"), hop] {
+            for (clock, till, error) in
+                [(800, 500, 11), (800, 799, 11), (800, 800, 11), (800, 801, 0), (1020, 1020, 11)]
+            {
+                let answer = errors(&mut day, &request.clone().till(till), [clock]);
+                assert_eq!(answer, [error], "till {till} at {clock}");
+            }
+        }
+    }
+
+    #[test]
+    fn r5_9_tickets_that_start_before_what_they_rest_on() {
+        let (mut day, tgt, later) = two_tickets();
+        let direct = day.grant(&kind_2(&tgt, "store"), 700);
+        let evidence = day.grant(&kind_3(&tgt, "tech"), 701);
+        let hop = day.grant(&kind_4(&tgt, &evidence, "store"), 702);
+        let other = day.grant(&kind_4(&tgt, &later, "store"), 710);
+        let till = day.grant(&kind_2(&tgt, "store").till(950), 900);
+        let times = [direct, evidence, hop, other, till].map(|ticket| (ticket.start, ticket.end));
+        assert_eq!(times, [(700, 36700), (701, 36701), (702, 36701), (710, 36710), (900, 950)]);
+        assert_eq!((hop.client, hop.service, hop.hops, hop.trail[0]), (0, 2, 1, 1));
+        assert_eq!(book::lawful(&day.book.notes, 0), Ok(()));
+        let descents = [0, 1, 2, 3, 4, 5, 6].map(|number| day.service.descent(number));
+        assert_eq!(descents, [0, 1, 1, 1, 2, 2, 1].map(Ok));
+        assert_eq!(day.service.day_total(), 36000 + 35990 + 36000 + 36000 + 35999 + 36000 + 50);
+        assert_eq!([949, 950, 36700, 36701].map(|clock| day.clear(clock)), [0, 1, 1, 2]);
     }
 
     #[test]
@@ -450,7 +576,8 @@ mod tests {
         let (mut day, tgt, evidence) = two_tickets();
         let short = day.grant(&kind_3(&tgt, "tech").till(1100), 1050);
         let other = day.grant(&kind_2(&tgt, "store").till(1100), 1050);
-        assert_eq!(day.ask(&kind_4(&tgt, &other, "store"), 1049), Err(33));
+        assert_eq!(day.ask(&kind_4(&tgt, &other, "store"), 749), Err(33));
+        assert_eq!(day.ask(&kind_4(&tgt, &other, "store"), 750), Err(26));
         assert_eq!(day.ask(&kind_4(&tgt, &other, "store"), 1100), Err(32));
         assert_eq!(day.ask(&kind_4(&tgt, &short, "store"), 1100), Err(32));
         day.set(0, "tech", 1, 0, 0);

@@ -24,7 +24,7 @@ pub enum Error {
     SvcUnavailable = 29,
     /// KRB_AP_ERR_TKT_EXPIRED: a presented ticket has ended (R6.3, R6.4).
     TktExpired = 32,
-    /// KRB_AP_ERR_TKT_NYV: a presented ticket has not begun (R6.3, R6.4).
+    /// KRB_AP_ERR_TKT_NYV: a presented ticket starts too far ahead (R6.3, R6.4).
     TktNyv = 33,
     /// KRB_AP_ERR_NOT_US: the TGT is of another origin than initial (R6.3).
     NotUs = 35,

@@ -22,6 +22,9 @@ pub const LAST_NUMBER: u16 = u16::MAX;
 /// R1.2: the last second that a time can be, 4294967295.
 pub const LAST_SECOND: u32 = u32::MAX;
 
+/// R5.2: how many seconds before its start a ticket may be presented.
+pub const CLOCK_SKEW: u32 = 300;
+
 /// The words in front of the rows, and in front of the ledger's numbers.
 pub const HEADER_SIZE: usize = 8;
 

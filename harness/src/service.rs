@@ -195,8 +195,8 @@ mod tests {
         assert_eq!(day.ask(&kind_1("ghost"), 1000), Err(6));
         assert_eq!(day.ask(&kind_1("web").till(1000), 1000), Err(11));
         let last = *day.service.ledger.last().unwrap();
-        assert_eq!(day.ask(&kind_3(&last, "tech"), 999), Err(33));
-        assert_eq!(day.ask(&kind_3(&last, "tech"), 1000), Err(29));
+        assert_eq!(day.ask(&kind_3(&last, "tech"), 699), Err(33));
+        assert_eq!(day.ask(&kind_3(&last, "tech"), 700), Err(29));
         assert_eq!(day.service.day_total(), 512 * u64::from(LIFETIME));
     }
 

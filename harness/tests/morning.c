@@ -217,7 +217,9 @@ static void morning(const calls *by, tickets_service *service, int print)
     expect(by->day_total(service) == 0, "the day total of a fresh service");
     set_accounts(by, service);
     granted(by, service, W1, sizeof W1, 1000, TICKET_0, sizeof TICKET_0, print);
+    refused(by, service, second.bytes, second.length, 699, OUTPUT, TICKETS_KRB_AP_ERR_TKT_NYV, 0);
     granted(by, service, second.bytes, second.length, 1010, TICKET_1, sizeof TICKET_1, print);
+    refused(by, service, third.bytes, third.length, 709, OUTPUT, TICKETS_KRB_AP_ERR_TKT_NYV, 0);
     refused(by, service, third.bytes, third.length, 1020, TICKETS_LONGEST_RECORD - 1, TICKETS_KRB_ERR_RESPONSE_TOO_BIG, 0);
     refused(by, service, third.bytes, third.length - 1, 1020, OUTPUT, TICKETS_KRB_ERR_GENERIC, 0);
     granted(by, service, third.bytes, third.length, 1020, TICKET_2, sizeof TICKET_2, print);

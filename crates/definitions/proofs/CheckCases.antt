@@ -22,6 +22,7 @@ use Rattle.definitions.specs.NewTickets.{initialTicket, directTicket, s4
 use Rattle.definitions.specs.HeldTickets.{holds}
 use Rattle.definitions.specs.Answers.{decideRequest}
 use Rattle.definitions.specs.declared.decision.Decision.{Decision}
+use Rattle.definitions.specs.declared.window.Window.{Window}
 use Rattle.definitions.specs.declared.ticket.Origin.{Origin}
 use Rattle.definitions.specs.declared.ticket.Origin.the-variants.{Initial, Direct, S4U2self, Delegated}
 use Rattle.definitions.specs.declared.ticket.Ticket.{Ticket}
@@ -103,9 +104,38 @@ lives bytes =
 abbrev answer-2 : List Ticket → Ticket → ℕ → ℕ
 answer-2 tickets t clock = answerNumber (decideRequest (table 9000 9000 9000) tickets (length tickets) (request-2 nothing nothing t store) clock enough .answer)
 
--- kind 4 at 1000
+-- kind 4 at a clock reading, and at 1000
+abbrev answer-4-at : Table → List Ticket → Ticket → Ticket → ℕ → ℕ
+answer-4-at rows tickets t e clock = answerNumber (decideRequest rows tickets (length tickets) (request-4 cname nothing nothing t e store) clock enough .answer)
+
 abbrev answer-4 : Table → List Ticket → Ticket → Ticket → ℕ
-answer-4 rows tickets t e = answerNumber (decideRequest rows tickets (length tickets) (request-4 cname nothing nothing t e store) 1000 enough .answer)
+answer-4 rows tickets t e = answer-4-at rows tickets t e 1000
+
+-- ---- A TGT, and evidence beside a TGT of all times, with a start and an end, at a clock reading
+abbrev tgt-of : ℕ → ℕ → Ticket
+tgt-of start end = ticket 0 0 1 0 start end Initial [] false
+
+abbrev evidence-of : ℕ → ℕ → Ticket
+evidence-of start end = ticket 1 0x40000000 0 1 start end (Direct 0) [] false
+
+abbrev by-tgt : ℕ → ℕ → ℕ → ℕ
+by-tgt start end clock = answer-2 (tgt-of start end ∷ []) (tgt-of start end) clock
+
+abbrev by-evidence : ℕ → ℕ → ℕ → ℕ
+by-evidence start end clock =
+    answer-4-at (table 9000 9000 9000) (tgt-of 0 4294967295 ∷ evidence-of start end ∷ []) (tgt-of 0 4294967295) (evidence-of start end) clock
+
+-- the window of a ticket that is granted at 700, 300 seconds before the start of what it rests on
+abbrev early : List ℕ → Window
+early bytes = decideRequest (table 9000 9000 9000) (tgt-of 1000 5000 ∷ evidence-of 1000 4000 ∷ []) 2 bytes 700 enough .ticket .window
+
+-- ... and the number where it is to end at 700
+abbrev early-till : List ℕ
+early-till = 0x00 ∷ 0x00 ∷ 0x02 ∷ 0xBC ∷ []
+
+abbrev early-end : ℕ
+early-end =
+    answerNumber (decideRequest (table 9000 9000 9000) (tgt-of 1000 5000 ∷ []) 1 (request-2 nothing early-till (tgt-of 1000 5000) store) 700 enough .answer)
 
 -- kind 1 with so many tickets held and so much room
 abbrev answer-1 : ℕ → ℕ → ℕ
@@ -163,10 +193,22 @@ pub record CheckCases : Type 0 where
   pub lives-2 : lives (request-2 nothing nothing (tgt 5000) store) ≡ 0 ∷ 0 ∷ 11 ∷ []
   pub lives-3 : lives (request-3 nothing nothing (tgt 5000) tech) ≡ 0 ∷ 11 ∷ 0 ∷ []
   pub lives-4 : lives (request-4 cname nothing nothing (tgt 5000) (evidence 5000) store) ≡ 0 ∷ 0 ∷ 11 ∷ []
-  -- R5.2: valid from the start on and before the end
-  pub not-yet : map (notYet (record { start = 5; end = 7 })) (4 ∷ 5 ∷ 6 ∷ 7 ∷ []) ≡ true ∷ false ∷ false ∷ false ∷ []
-  pub has-ended : map (ended (record { start = 5; end = 7 })) (4 ∷ 5 ∷ 6 ∷ 7 ∷ []) ≡ false ∷ false ∷ false ∷ true ∷ []
-  pub tgt-window : map (answer-2 (tgt 5000 ∷ []) (tgt 5000)) (499 ∷ 500 ∷ 4999 ∷ 5000 ∷ []) ≡ 33 ∷ 0 ∷ 0 ∷ 32 ∷ []
+  -- R5.2: valid from 300 seconds before the start on, and before the end
+  pub not-yet : map (notYet (record { start = 1000; end = 1002 })) (699 ∷ 700 ∷ 1000 ∷ 1002 ∷ []) ≡ true ∷ false ∷ false ∷ false ∷ []
+  pub has-ended : map (ended (record { start = 1000; end = 1002 })) (700 ∷ 1001 ∷ 1002 ∷ 1003 ∷ []) ≡ false ∷ false ∷ true ∷ true ∷ []
+  pub tgt-window : map (by-tgt 1000 5000) (0 ∷ 699 ∷ 700 ∷ 1000 ∷ 4999 ∷ 5000 ∷ []) ≡ 33 ∷ 33 ∷ 0 ∷ 0 ∷ 0 ∷ 32 ∷ []
+  pub evidence-window : map (by-evidence 1000 5000) (0 ∷ 699 ∷ 700 ∷ 1000 ∷ 4999 ∷ 5000 ∷ []) ≡ 33 ∷ 33 ∷ 0 ∷ 0 ∷ 0 ∷ 32 ∷ []
+  -- a start of 300 or less is never too early; the sum goes on past 4294967295
+  pub first-seconds : by-tgt 300 5000 0 ∷ by-tgt 301 5000 0 ∷ by-evidence 300 5000 0 ∷ by-evidence 301 5000 0 ∷ [] ≡ 0 ∷ 33 ∷ 0 ∷ 33 ∷ []
+  pub tgt-last-seconds : map (by-tgt 4294967295 4294967295) (4294966994 ∷ 4294966995 ∷ 4294966996 ∷ 4294967294 ∷ 4294967295 ∷ []) ≡ 33 ∷ 0 ∷ 0 ∷ 0 ∷ 32 ∷ []
+  pub evidence-last-seconds : map (by-evidence 4294967295 4294967295) (4294966994 ∷ 4294966995 ∷ 4294966996 ∷ 4294967294 ∷ []) ≡ 33 ∷ 0 ∷ 0 ∷ 0 ∷ []
+  -- 33 before 32 where both hold; where the start is near enough, 32
+  pub tgt-both : map (by-tgt 2000 1000) (1000 ∷ 1699 ∷ 1700 ∷ []) ≡ 33 ∷ 33 ∷ 32 ∷ []
+  pub evidence-both : map (by-evidence 2000 1000) (1000 ∷ 1699 ∷ 1700 ∷ []) ≡ 33 ∷ 33 ∷ 32 ∷ []
+  -- a ticket granted before the start of what it rests on starts now, and ends as any other; 11 goes by now
+  pub early-windows : early (request-2 nothing nothing (tgt-of 1000 5000) store) ∷ early (request-3 nothing nothing (tgt-of 1000 5000) tech) ∷ early (request-4 cname nothing nothing (tgt-of 1000 5000) (evidence-of 1000 4000) store) ∷ []
+      ≡ record { start = 700; end = 5000 } ∷ record { start = 700; end = 5000 } ∷ record { start = 700; end = 4000 } ∷ []
+  pub early-11 : early-end ≡ 11
   -- R5.3 to R5.10: client, service, origin and number of a ticket where all of them differ
   pub role-1 : role (request-1 nothing nothing web) ≡ grant (ticket 2 0x00400000 1 0 1000 1200 Initial [] false)
   pub role-2 : role (request-2 nothing nothing store-tgt tech) ≡ grant (ticket 2 0 2 0 1000 1100 (Direct 5) [] false)
@@ -212,6 +254,14 @@ check-cases =
       not-yet = refl;
       has-ended = refl;
       tgt-window = refl;
+      evidence-window = refl;
+      first-seconds = refl;
+      tgt-last-seconds = refl;
+      evidence-last-seconds = refl;
+      tgt-both = refl;
+      evidence-both = refl;
+      early-windows = refl;
+      early-11 = refl;
       role-1 = refl;
       role-2 = refl;
       role-3 = refl;

@@ -68,15 +68,15 @@ abbrev ledger : Bool → Ticket → Bool → Ticket → Bool → List Ticket
 ledger no-first first no-second second full =
     cond no-first [] (first ∷ []) ++ cond no-second [] (second ∷ []) ++ cond full (replicate 512 (ticket 7 0 0 0 0 0 Initial [] false)) []
 
--- a TGT of `web`: 35, it is direct; 33, it starts after now; 32, it ends now
+-- a TGT of `web`: 35, it is direct; 33, it starts 301 seconds after now; 32, it ends now
 abbrev tgt : Bool → Bool → Bool → Ticket
 tgt other early late =
-    ticket 0 0x40400000 1 0 (cond early 1021 1000) (cond late 1020 37000) (cond other (Direct 0) Initial) [] false
+    ticket 0 0x40400000 1 0 (cond early 1321 1000) (cond late 1020 37000) (cond other (Direct 0) Initial) [] false
 
 -- evidence of `tech` to `web`: 33; 32; 26, it is to `store`; 61, its trail is full
 abbrev evidence : Bool → Bool → Bool → Bool → Ticket
 evidence early late other long =
-    ticket 1 0x40000000 0 (cond other 2 1) (cond early 1021 1010) (cond late 1020 37000) (cond long (Delegated 0 0) (S4U2self 0))
+    ticket 1 0x40000000 0 (cond other 2 1) (cond early 1321 1010) (cond late 1020 37000) (cond long (Delegated 0 0) (S4U2self 0))
     (cond long (replicate 8 1) []) false
 
 -- the number that a request is answered

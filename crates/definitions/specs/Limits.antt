@@ -34,6 +34,10 @@ ticketLimit = 512
 abbrev pub lastNumber : ℕ
 lastNumber = 65535
 
+-- R5.2: the seconds by which a clock reading may be before the start of a presented ticket
+abbrev pub clockSkew : ℕ
+clockSkew = 300
+
 -- R1.2: the last second that a clock reading or an end can name
 abbrev pub lastSecond : ℕ
 lastSecond = 4294967295

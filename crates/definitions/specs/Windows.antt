@@ -1,4 +1,4 @@
--- The windows of new tickets: from when and until when they are valid (R5.9).
+-- The windows of new tickets, their starts and ends (R5.9).
 -- Assumes nothing.
 use Prim.Native.Nat.{ℕ, _+_, min}
 use mathlib.Core.Bool.{cond}

@@ -24,6 +24,9 @@ pub const TICKET_LIMIT: usize = 512;
 // The last number that a ticket is given (R5.10).
 pub const LAST_NUMBER: u64 = 65535;
 
+// The seconds by which a clock reading may be before the start of a presented ticket (R5.2).
+pub const CLOCK_SKEW: u64 = 300;
+
 // The last second that a clock reading or an end can name (R1.2).
 pub const LAST_SECOND: u32 = 4294967295;
 

@@ -9,7 +9,7 @@ ghost use Rattle.definitions.specs.Limits.{ticketLimit, two32};
 ghost use Rattle.definitions.specs.LedgerWords.{ticketAt, ticketsOf};
 ghost use Rattle.definitions.specs.Totals.{secondsOf, dayTotal};
 
-// How long the ticket at a place is valid, 0 where its end is not later than its start.
+// How long it is from the start to the end of the ticket at a place, 0 where its end is not later.
 fn seconds_at(words: &LedgerWords, i: usize) -> u64
     requires { ⌜ i < ticketLimit ⌝ }
     ensures exact { λ r. ⌜ r ≡ secondsOf (ticketAt (now (words .entry)) i .window) ⌝ }
@@ -21,7 +21,7 @@ fn seconds_at(words: &LedgerWords, i: usize) -> u64
     if start < end { end - start } else { 0 }
 }
 
-// The day total: how long the tickets held are valid, together.
+// The day total: how long it is from start to end, of all tickets held together.
 pub fn day_total(words: &LedgerWords) -> u64
     ensures { λ r. ⌜ r ≡ dayTotal (ticketsOf (now (words .entry))) ⌝ }
 {

@@ -5,9 +5,10 @@ use super::draft::{record, Draft};
 use super::{edit_of, invented, odd, Call, History};
 use crate::accounts::{Account, BARRED, DISABLED, SERVICE, TRUSTED};
 use crate::decisions::{
-    classic_route, resource_route, CNAME_IN_ADDL_TKT, FORWARDABLE, RESOURCE_BASED,
+    classic_route, has_ended, is_too_early, resource_route, CNAME_IN_ADDL_TKT, FORWARDABLE,
+    RESOURCE_BASED,
 };
-use crate::limits::{ACCOUNT_LIMIT, LAST_SECOND, LONGEST_RECORD, TICKET_LIMIT};
+use crate::limits::{ACCOUNT_LIMIT, CLOCK_SKEW, LAST_SECOND, LONGEST_RECORD, TICKET_LIMIT};
 use crate::random::Random;
 use crate::record::{Origin, Principal, Ticket};
 use crate::service::Service;
@@ -31,9 +32,9 @@ const LIFETIMES: [u32; 12] =
     [36_000, 36_000, 36_000, 36_000, 90_000, 90_000, 3_600, 600, 60, 1, 0, u32::MAX];
 const SHORT_LIFETIMES: [u32; 12] = [600, 600, 600, 600, 3_600, 3_600, 300, 60, 20, 1, 0, u32::MAX];
 
-/// Where a clock begins.
+/// Where a clock begins; the last is so late that its sum with the allowance is past the last second.
 const BEGINNINGS: [u32; 6] =
-    [0, 1_000, 1_000, 1_700_000_000, LAST_SECOND - 40_000, LAST_SECOND - 400];
+    [0, 1_000, 1_000, 1_700_000_000, LAST_SECOND - 40_000, LAST_SECOND - 200];
 
 /// The longest output of a request.
 const LONGEST_OUTPUT: usize = 64;
@@ -119,9 +120,9 @@ impl Generator {
     /// Words that no calls make, or that calls made and something else changed.
     fn other_start(&mut self) -> Box<crate::library::Service> {
         if self.random.once_in(2) {
-            self.now = invented::NOW;
+            self.now = invented::time(&mut self.random);
             self.style.accounts = ACCOUNT_LIMIT;
-            return invented::words(&mut self.random);
+            return invented::words(&mut self.random, self.now);
         }
         self.first_edits();
         self.go_on(self.style.calls.min(300));
@@ -435,22 +436,42 @@ impl Generator {
                 self.now
             }
             _ if presented.is_empty() => self.now,
-            _ => {
-                let Ticket { start, end, .. } = self.random.pick(presented);
-                let edges = [start.wrapping_sub(1), start, end.wrapping_sub(1), end];
-                self.random.pick(&edges)
-            }
+            _ => self.clock_at_an_edge(presented),
         }
     }
 
-    /// The time now, or half the time, where the tickets are not valid then, one at which they are.
+    /// A clock reading at which the answer to one of the tickets changes, or beside it.
+    fn clock_at_an_edge(&mut self, presented: &[Ticket]) -> u32 {
+        let Ticket { start, end, .. } = self.random.pick(presented);
+        let first = start.wrapping_sub(CLOCK_SKEW);
+        let starts = [first.wrapping_sub(1), first, start.wrapping_sub(1), start];
+        let ends = [end.wrapping_sub(1), end];
+        self.random.pick(&[&starts[..], &ends].concat())
+    }
+
+    /// The time now, or half the time, where the tickets are not valid then, one at which they are, or
+    /// an edge if there is none; sometimes one just before the latest start.
     fn valid_clock(&mut self, presented: &[Ticket]) -> u32 {
         let start = presented.iter().map(|ticket| ticket.start).max().unwrap_or(0);
+        let first = start.saturating_sub(CLOCK_SKEW);
         let end = presented.iter().map(|ticket| ticket.end).min().unwrap_or(LAST_SECOND);
-        if (start..end).contains(&self.now) || start >= end || self.random.once_in(2) {
+        if first < start && self.random.once_in(12) {
+            return self.early_clock(first, start);
+        }
+        if (first..end).contains(&self.now) || self.random.once_in(2) {
             return self.now;
         }
-        start + self.random.below((end - start) as usize) as u32
+        if first >= end {
+            return self.clock_at_an_edge(presented);
+        }
+        first + self.random.below((end - first) as usize) as u32
+    }
+
+    /// A clock reading before this start, and not before the first at which a ticket may be presented;
+    /// often that one.
+    fn early_clock(&mut self, first: u32, start: u32) -> u32 {
+        let some = first + self.random.below((start - first) as usize) as u32;
+        self.random.pick(&[first, some, some, some])
     }
 
     /// The record of a ticket as it is presented: the ticket itself, or one that is altered.
@@ -509,10 +530,19 @@ impl Generator {
         Draft { kind: 3, tgt, user: self.asked_name(user), ..Draft::default() }
     }
 
-    /// Evidence, half the time with the longest trail that there is.
+    /// Evidence, half the time with the longest trail that there is; one in four ends before its start,
+    /// where such is held, which takes other words.
     fn evidence(&mut self) -> Option<Ticket> {
         if self.odd() {
             return self.any_ticket();
+        }
+        if self.random.once_in(4) {
+            let backward = self.ticket_with(|_, ticket| {
+                ticket.origin != Origin::Initial && ticket.end < ticket.start
+            });
+            if backward.is_some() {
+                return backward;
+            }
         }
         let (now, any_time, disabled) = (self.now, self.odd(), self.odd());
         let fits = move |service: &Service, ticket: &Ticket| {
@@ -558,7 +588,7 @@ impl Generator {
 
 /// Whether a ticket is valid at this time.
 fn is_valid(ticket: &Ticket, now: u32) -> bool {
-    (ticket.start..ticket.end).contains(&now)
+    !is_too_early(ticket, now) && !has_ended(ticket, now)
 }
 
 /// Whether an account may be named as a user.

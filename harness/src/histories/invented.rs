@@ -2,8 +2,8 @@
 
 use crate::library;
 use crate::limits::{
-    ACCOUNTS_SIZE, ACCOUNT_LIMIT, LAST_NUMBER, LAST_SECOND, LEDGER_SIZE, NAME_LIMIT, PLACE_SIZE,
-    ROW_SIZE, TICKET_LIMIT, TRAIL_LIMIT,
+    ACCOUNTS_SIZE, ACCOUNT_LIMIT, CLOCK_SKEW, LAST_NUMBER, LAST_SECOND, LEDGER_SIZE, NAME_LIMIT,
+    PLACE_SIZE, ROW_SIZE, TICKET_LIMIT, TRAIL_LIMIT,
 };
 use crate::random::Random;
 use crate::service::Service;
@@ -11,8 +11,8 @@ use crate::words::{
     number, place_at, put_number, row_at, store_account, store_ticket, COUNT_AT, NEXT_AT,
 };
 
-/// A time at which many of the invented tickets are valid.
-pub const NOW: u32 = 1_000;
+/// How many seconds before now the first of the invented tickets start and end.
+const BEFORE: u32 = 1_000;
 
 /// The limits as bytes, and as a word.
 const TRAIL: u8 = TRAIL_LIMIT as u8;
@@ -30,14 +30,22 @@ const BYTES: [u8; 16] = [
     NAME - 1, NAME, NAME + 1, ACCOUNT - 1, ACCOUNT, 128, 255,
 ];
 
-/// Random words: all of them, few of them, or such as stand for plausible accounts and tickets.
-pub fn words(random: &mut Random) -> Box<library::Service> {
+/// A time at which many of the invented tickets are valid: an early one, or one so late that its sum
+/// with the allowance may be past the last second.
+pub fn time(random: &mut Random) -> u32 {
+    let late = LAST_SECOND - random.below(2 * CLOCK_SKEW as usize) as u32;
+    random.pick(&[BEFORE, BEFORE, late])
+}
+
+/// Random words: all of them, few of them, or such as stand for plausible accounts and tickets, many of
+/// these valid now.
+pub fn words(random: &mut Random, now: u32) -> Box<library::Service> {
     let mut words = Box::new(library::Service::filled(0));
     match random.below(8) {
         0 => each(&mut words, |word| *word = random.word()),
         1 => each(&mut words, |word| *word = if random.once_in(8) { random.word() } else { 0 }),
-        2 => chain(random, &mut words),
-        _ => plausible(random, &mut words),
+        2 => chain(random, now, &mut words),
+        _ => plausible(random, now, &mut words),
     }
     if random.once_in(3) {
         words.ledger[COUNT_AT] = random.below(TICKET_LIMIT) as u64;
@@ -59,8 +67,8 @@ fn next_number(random: &mut Random) -> u64 {
 }
 
 /// Plausible words whose tickets mostly go back to the one before them.
-fn chain(random: &mut Random, words: &mut library::Service) {
-    plausible(random, words);
+fn chain(random: &mut Random, now: u32, words: &mut library::Service) {
+    plausible(random, now, words);
     for place in 0..TICKET_LIMIT {
         put_number(&mut words.ledger, place, place as u16);
         if place > 0 && !random.once_in(200) {
@@ -79,8 +87,8 @@ fn each(words: &mut library::Service, mut change: impl FnMut(&mut u64)) {
 }
 
 /// Accounts with short names of few letters, some of them the same, and tickets whose parts are
-/// small numbers.
-fn plausible(random: &mut Random, words: &mut library::Service) {
+/// small numbers, but for times, which are near now.
+fn plausible(random: &mut Random, now: u32, words: &mut library::Service) {
     for row in words.accounts[row_at(0)..].chunks_exact_mut(ROW_SIZE) {
         let name: Vec<u8> = (0..8).map(|_| random.pick(b"abAB[{@\x00\xE1")).collect();
         row[0] = u64::from_le_bytes(name.try_into().expect("eight bytes"));
@@ -102,20 +110,30 @@ fn plausible(random: &mut Random, words: &mut library::Service) {
         put_number(&mut words.ledger, place, random.below(numbers) as u16);
         let place = &mut words.ledger[place_at(place)..][..PLACE_SIZE];
         plausible_ticket(random, numbers, accounts, place);
+        place[1] = plausible_times(random, now);
         if random.once_in(edges) {
             place[1] = u64::from(place[1] as u32) | random.pick(&[0, LAST_SECOND.into()]) << 32;
         }
     }
 }
 
-/// A ticket whose back numbers and accounts are below these; one account in sixteen is beyond the limit.
+/// The word of a start and an end near now; those that would be past the last second are at it.
+fn plausible_times(random: &mut Random, now: u32) -> u64 {
+    let mut time = |seconds: u32| {
+        let later = random.below(seconds as usize) as u32;
+        u64::from(now.saturating_sub(BEFORE).saturating_add(later))
+    };
+    time(2 * BEFORE) | time(4 * BEFORE) << 32
+}
+
+/// A ticket without its times, whose back numbers and accounts are below these; one account in sixteen
+/// is beyond the limit.
 fn plausible_ticket(random: &mut Random, numbers: usize, accounts: usize, words: &mut [u64]) {
     let mut number = |limit: usize| random.below(limit) as u64;
     let (tgt, evidence) = (number(numbers), number(numbers));
     let beyond = u64::from(ACCOUNT);
     let mut account = || if number(16) == 0 { beyond + number(4) } else { number(accounts) };
     let (client, service) = (account(), account());
-    let (start, end) = (number(2 * NOW as usize), number(4 * NOW as usize));
     let spare = if number(8) == 0 { number(1 << 32) } else { 0 };
     let tag = random.pick(&[0, 0, 0, 1, 2, 3, 3, 4, 15]);
     let service = if tag == 0 && !random.once_in(8) { 0 } else { service };
@@ -125,7 +143,6 @@ fn plausible_ticket(random: &mut Random, numbers: usize, accounts: usize, words:
     let kept = if random.once_in(8) { u64::BITS } else { 8 * hops.min(TRAIL.into()) as u32 };
     let flags = random.pick(&[0x4000_0000, 0x4000_0000, 0x0040_0000, 0, 0xFFFF_FFFF]);
     words[0] = flags | client << 32 | service << 40 | hops << 48 | tag << 56 | mark << 60;
-    words[1] = start | end << 32;
     words[2] = tgt << 32 | evidence << 48 | spare;
     words[3] =
         random.word() & 0x3F3F_3F3F_3F3F_3F3F & 1u64.checked_shl(kept).map_or(!0, |bit| bit - 1);
@@ -142,19 +159,19 @@ pub fn changed(random: &mut Random, service: &Service) -> Box<library::Service> 
     service.held().iter().for_each(|ticket| store_ticket(&mut words.ledger, ticket));
     words.ledger[NEXT_AT] = if random.once_in(3) { next_number(random) } else { service.next };
     let count = service.held().len().max(1);
-    if random.once_in(2) {
-        change_half(random, &mut words, count);
-    } else {
+    if random.once_in(3) {
         let changes = random.pick(&[1, 4, 24, 100, 400]);
         (0..changes).for_each(|_| change(random, &mut words, count));
+    } else {
+        change_half(random, &mut words, count);
     }
     words
 }
 
-/// The same change of every other ticket: its mark, twice as often as any other, FORWARDABLE, its
-/// client or service to one beyond the limit, start for end, or its tag.
+/// The same change of every other ticket: its mark, FORWARDABLE, its client or service to one beyond
+/// the limit, start for end, or its tag; some of these twice as often as others.
 fn change_half(random: &mut Random, words: &mut library::Service, count: usize) {
-    let kind = random.pick(&[0, 0, 1, 2, 3, 4, 5]);
+    let kind = random.pick(&[0, 0, 1, 2, 2, 3, 4, 4, 5]);
     for place in words.ledger[place_at(0)..].chunks_exact_mut(PLACE_SIZE).take(count) {
         match kind {
             _ if random.once_in(2) => {}

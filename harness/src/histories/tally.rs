@@ -4,14 +4,30 @@
 use super::draft::presented;
 use super::History;
 use crate::accounts::{Edit, ALL_FLAGS};
-use crate::decisions::{classic_route, has_cname_in_addl_tkt, is_forwardable, resource_route};
-use crate::limits::{ACCOUNT_LIMIT, LAST_NUMBER, LAST_SECOND, TICKET_LIMIT, TRAIL_LIMIT};
+use crate::decisions::{
+    classic_route, has_cname_in_addl_tkt, has_ended, is_forwardable, is_too_early, resource_route,
+};
+use crate::limits::{
+    ACCOUNT_LIMIT, CLOCK_SKEW, LAST_NUMBER, LAST_SECOND, TICKET_LIMIT, TRAIL_LIMIT,
+};
 use crate::past::Past;
 use crate::record::{read_request, Kind, Origin, Principal, Request, Ticket};
 use crate::service::Service;
 use crate::words::COUNT_AT;
 use std::collections::BTreeMap;
 use std::fmt;
+
+/// What is counted of a presented ticket that starts after the clock reading: grants, among them those
+/// at the first second and those where the sum of clock and allowance does not fit 32 bits; and
+/// refusals.
+const EARLY: &[&str] = &[
+    "granted",
+    "granted at the first second",
+    "granted, sum past 32 bits",
+    "33 a second before it",
+    "33, ended too",
+    "32",
+];
 
 /// What has to be reached, in groups; nothing else may be.
 const EXPECTED: &[(&str, &[&str])] = &[
@@ -36,8 +52,10 @@ const EXPECTED: &[(&str, &[&str])] = &[
     ("number", &["below 512", "512 and above"]),
     ("other words", &["number below 512", "512 and above", "65535", "held already"]),
     ("place", &["new", "set free"]),
-    ("granted at", &["start", "end - 1", "0"]),
-    ("refused at", &["start - 1", "end", "0", "last second"]),
+    ("granted at", &["start - 1", "start", "end - 1", "0"]),
+    ("refused at", &["end", "0", "last second"]),
+    ("early TGT", EARLY),
+    ("early evidence", EARLY),
     ("no account", &["TGT 18", "evidence 26", "evidence 18"]),
     ("letter case", &["as set", "other"]),
     ("clearing", &["none", "some", "all", "nothing held"]),
@@ -200,6 +218,7 @@ impl Tally {
                 let (group, name) = refusal.reason(error);
                 self.add(group, name);
                 refusal.edges(error).for_each(|name| self.add("refused at", name));
+                self.count_early(&request, clock, error, group);
                 if let Some(name) = refusal.no_account(group, error) {
                     self.add("no account", name);
                 }
@@ -218,6 +237,8 @@ impl Tally {
         self.add(group, name);
         self.add("end by", end_by(request, ticket));
         self.count_clock(request, ticket.start);
+        self.count_early(request, ticket.start, 0, "TGT");
+        self.count_early(request, ticket.start, 0, "evidence");
         self.count_name(service, request, ticket);
         if let Origin::S4U2self { .. } = ticket.origin {
             self.add("S4U2self by", s4u2self_by(service, ticket.service));
@@ -253,6 +274,9 @@ impl Tally {
     fn count_clock(&mut self, request: &Request, now: u32) {
         let (tgt, evidence) = presented(request);
         for ticket in tgt.into_iter().chain(evidence) {
+            if ticket.start.checked_sub(1) == Some(now) {
+                self.add("granted at", "start - 1");
+            }
             if now == ticket.start {
                 self.add("granted at", "start");
             }
@@ -263,6 +287,19 @@ impl Tally {
         if now == 0 {
             self.add("granted at", "0");
         }
+    }
+
+    /// R5.2: counts the ticket of this group, where its start was after the clock; the answer hung on
+    /// it, or is a grant.
+    fn count_early(&mut self, request: &Request, clock: u32, error: u32, group: &str) {
+        let (tgt, evidence) = presented(request);
+        let (group, ticket) = match group {
+            "TGT" => ("early TGT", tgt),
+            "evidence" => ("early evidence", evidence),
+            _ => return,
+        };
+        let names = ticket.into_iter().flat_map(|ticket| early(ticket, clock, error));
+        names.for_each(|name| self.add(group, name));
     }
 
     /// Whether the name of a granted request was written as the account's.
@@ -284,7 +321,7 @@ impl fmt::Display for Tally {
         for (group, names) in EXPECTED {
             let count = |name| self.counts.get(&(*group, name)).copied().unwrap_or(0);
             let parts = names.iter().map(|name| format!("{name}: {}", count(name)));
-            writeln!(f, "  {group:13} | {}", parts.collect::<Vec<_>>().join(" | "))?;
+            writeln!(f, "  {group:14} | {}", parts.collect::<Vec<_>>().join(" | "))?;
         }
         Ok(())
     }
@@ -334,6 +371,22 @@ fn cleared_at(held: &[Ticket], clock: u32, some: bool) -> impl Iterator<Item = &
         (clock == LAST_SECOND, "last second"),
     ];
     edges.into_iter().filter_map(|(stood, name)| stood.then_some(name))
+}
+
+/// R5.2: what is counted of a ticket that was presented at this clock reading, by the answer.
+fn early(ticket: &Ticket, clock: u32, error: u32) -> impl Iterator<Item = &'static str> {
+    let ahead = ticket.start.saturating_sub(clock);
+    let granted = error == 0 && ahead > 0;
+    let past_32_bits = clock.checked_add(CLOCK_SKEW).is_none();
+    let names = [
+        (granted, "granted"),
+        (granted && ahead == CLOCK_SKEW, "granted at the first second"),
+        (granted && past_32_bits, "granted, sum past 32 bits"),
+        (error == 33 && ahead == CLOCK_SKEW + 1, "33 a second before it"),
+        (error == 33 && has_ended(ticket, clock), "33, ended too"),
+        (error == 32 && ahead > 0, "32"),
+    ];
+    names.into_iter().filter_map(|(counted, name)| counted.then_some(name))
 }
 
 /// R5.10: the next number of a service from other words.
@@ -422,8 +475,8 @@ impl Refusal<'_> {
     fn reason(&self, error: u32) -> (&'static str, &'static str) {
         match error {
             41 => self.not_as_held(),
-            33 => (self.by(|ticket| self.clock < ticket.start), "33"),
-            32 => (self.by(|ticket| self.clock >= ticket.end), "32"),
+            33 => (self.by(|ticket| is_too_early(ticket, self.clock)), "33"),
+            32 => (self.by(|ticket| has_ended(ticket, self.clock)), "32"),
             18 => self.disabled(),
             26 => self.other_service(),
             7 => ("service", self.no_service()),
@@ -477,12 +530,10 @@ impl Refusal<'_> {
     fn edges(&self, error: u32) -> impl Iterator<Item = &'static str> {
         let (tgt, evidence) = presented(self.request);
         let mut tickets = tgt.into_iter().chain(evidence);
-        let is_before = |ticket: &Ticket| ticket.start.wrapping_sub(1) == self.clock;
-        let early = error == 33 && tickets.clone().any(is_before);
         let late = error == 32 && tickets.any(|ticket| ticket.end == self.clock);
         let zero = self.clock == 0;
         let last = self.clock == LAST_SECOND;
-        let edges = [(early, "start - 1"), (late, "end"), (zero, "0"), (last, "last second")];
+        let edges = [(late, "end"), (zero, "0"), (last, "last second")];
         edges.into_iter().filter_map(|(stood, name)| stood.then_some(name))
     }
 

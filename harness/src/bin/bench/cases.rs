@@ -1,8 +1,8 @@
 //! The cases: each a state, a call, and the error number that it has to give.
 
-use crate::scenes::{self, other_client, other_number, Scene, END, NOW, UNKNOWN};
+use crate::scenes::{self, other_client, other_number, Scene, END, FIRST, NOW, UNKNOWN};
 use crate::sides::{make, Call, Changes, Output, Side};
-use crate::stage::{Names, Pair, Size, START};
+use crate::stage::{Names, Pair, Size};
 use harness::accounts::{Edit, DISABLED};
 use harness::limits::{ACCOUNT_LIMIT, LONGEST_RECORD, TICKET_LIMIT};
 use harness::samples::{counted, w1, w3_with, TICKET_0, TICKET_1, TICKET_2};
@@ -129,6 +129,7 @@ fn grants(size: Size) -> Vec<Case> {
         done("kind 3, S4U2self", scenes::s4u2self(size).call()),
         done("kind 4, S4U2proxy, classic route", scenes::classic(size).call()),
         done("kind 4, S4U2proxy, resource route", scenes::resource(size).call()),
+        done("kind 4, S4U2proxy, before the starts", scenes::classic(size).at(FIRST).call()),
     ]
 }
 
@@ -148,7 +149,7 @@ fn of_tgt(size: Size) -> Vec<Case> {
         refused(41, "kind 2, TGT unequal", direct().tgt(other_client).call()),
         refused(41, "kind 4, TGT unequal", classic().tgt(other_client).call()),
         refused(35, "kind 2, TGT is not initial", scenes::direct_for_tgt(size).call()),
-        refused(33, "kind 2, before the TGT's start", direct().at(START - 1).call()),
+        refused(33, "kind 2, too early for the TGT", direct().at(FIRST - 1).call()),
         refused(32, "kind 2, at the TGT's end", direct().at(END).call()),
         refused(18, "kind 2, TGT's client disabled", direct().flags(0, DISABLED).call()),
     ]
@@ -160,7 +161,7 @@ fn of_evidence(size: Size) -> Vec<Case> {
     vec![
         refused(41, "kind 4, evidence not held", classic().evidence(other_number).call()),
         refused(41, "kind 4, evidence unequal", classic().evidence(other_client).call()),
-        refused(33, "kind 4, before the evidence's start", scenes::later_evidence(size).call()),
+        refused(33, "kind 4, too early for the evidence", scenes::later_evidence(size).call()),
         refused(32, "kind 4, at the evidence's end", scenes::ended_evidence(size).call()),
         refused(26, "kind 4, evidence of another", scenes::evidence_of_another(size).call()),
         refused(18, "kind 4, evidence's client disabled", classic().flags(0, DISABLED).call()),

@@ -4,10 +4,13 @@ use crate::sides::Call;
 use crate::stage::{Asked, Pair, Size, Stage, LIFETIME, START};
 use harness::accounts::{SERVICE, TRUSTED};
 use harness::decisions::RESOURCE_BASED;
-use harness::limits::{LONGEST_RECORD, TRAIL_LIMIT};
+use harness::limits::{CLOCK_SKEW, LONGEST_RECORD, TRAIL_LIMIT};
 
 /// The clock reading of most requests.
 pub const NOW: u32 = START + 100;
+
+/// The first clock reading at which a ticket that begins with the scene may be presented.
+pub const FIRST: u32 = START - CLOCK_SKEW;
 
 /// The end of a ticket that begins with the scene.
 pub const END: u32 = START + LIFETIME;
@@ -185,9 +188,9 @@ pub fn no_route(size: Size) -> Scene {
     hop(hop_stage(size, SERVICE | TRUSTED, &[1], &[0], 2), START, END)
 }
 
-/// Kind 4 with evidence that begins later than the request.
+/// Kind 4 with evidence that begins too long after the request.
 pub fn later_evidence(size: Size) -> Scene {
-    hop(hop_stage(size, SERVICE | TRUSTED, &[2], &[], 2), NOW + 1, END)
+    hop(hop_stage(size, SERVICE | TRUSTED, &[2], &[], 2), NOW + CLOCK_SKEW + 1, END)
 }
 
 /// Kind 4 with evidence that ends with the request.
