@@ -129,13 +129,11 @@ by-evidence start end clock =
 abbrev early : List ℕ → Window
 early bytes = decideRequest (table 9000 9000 9000) (tgt-of 1000 5000 ∷ evidence-of 1000 4000 ∷ []) 2 bytes 700 enough .ticket .window
 
--- ... and the number where it is to end at 700
-abbrev early-till : List ℕ
-early-till = 0x00 ∷ 0x00 ∷ 0x02 ∷ 0xBC ∷ []
-
-abbrev early-end : ℕ
-early-end =
-    answerNumber (decideRequest (table 9000 9000 9000) (tgt-of 1000 5000 ∷ []) 1 (request-2 nothing early-till (tgt-of 1000 5000) store) 700 enough .answer)
+-- the answer then to a request with a till of 700
+abbrev early-answer : ℕ
+early-answer =
+    answerNumber (decideRequest (table 9000 9000 9000) (tgt-of 1000 5000 ∷ []) 1
+    (request-2 nothing (0x00 ∷ 0x00 ∷ 0x02 ∷ 0xBC ∷ []) (tgt-of 1000 5000) store) 700 enough .answer)
 
 -- kind 1 with so many tickets held and so much room
 abbrev answer-1 : ℕ → ℕ → ℕ
@@ -208,7 +206,7 @@ pub record CheckCases : Type 0 where
   -- a ticket granted before the start of what it rests on starts now, and ends as any other; 11 goes by now
   pub early-windows : early (request-2 nothing nothing (tgt-of 1000 5000) store) ∷ early (request-3 nothing nothing (tgt-of 1000 5000) tech) ∷ early (request-4 cname nothing nothing (tgt-of 1000 5000) (evidence-of 1000 4000) store) ∷ []
       ≡ record { start = 700; end = 5000 } ∷ record { start = 700; end = 5000 } ∷ record { start = 700; end = 4000 } ∷ []
-  pub early-11 : early-end ≡ 11
+  pub early-11 : early-answer ≡ 11
   -- R5.3 to R5.10: client, service, origin and number of a ticket where all of them differ
   pub role-1 : role (request-1 nothing nothing web) ≡ grant (ticket 2 0x00400000 1 0 1000 1200 Initial [] false)
   pub role-2 : role (request-2 nothing nothing store-tgt tech) ≡ grant (ticket 2 0 2 0 1000 1100 (Direct 5) [] false)
