@@ -60,9 +60,9 @@ abbrev chain : ℕ → List Ticket
 chain zero = of-origin 0 Initial ∷ []
 chain (suc n) = of-origin (suc n) (Direct n) ∷ chain n
 
--- a ticket that is valid so
-abbrev valid : ℕ → ℕ → Ticket
-valid start end = ticket 0 0 0 0 start end Initial [] false
+-- a ticket with this start and end
+abbrev timed : ℕ → ℕ → Ticket
+timed start end = ticket 0 0 0 0 start end Initial [] false
 
 -- ---- Words
 -- two tickets whose fields all differ
@@ -132,7 +132,7 @@ pub record LedgerCases : Type 0 where
   pub long-way : descent (chain 299) 299 ≡ some 299
   pub descents : descended none ∷ descended (some 3) ∷ [] ≡ descended.Refused «KRB_AP_ERR_MODIFIED» ∷ descended.Steps 3 ∷ []
   -- R7.5: end minus start, 0 where the end is not later
-  pub totals : dayTotal [] ∷ dayTotal (valid 5 7 ∷ []) ∷ dayTotal (valid 7 5 ∷ []) ∷ dayTotal (valid 0 10 ∷ valid 9 9 ∷ valid 7 5 ∷ valid 1 4294967295 ∷ valid 5 7 ∷ []) ∷ [] ≡ 0 ∷ 2 ∷ 0 ∷ 4294967306 ∷ []
+  pub totals : dayTotal [] ∷ dayTotal (timed 5 7 ∷ []) ∷ dayTotal (timed 7 5 ∷ []) ∷ dayTotal (timed 0 10 ∷ timed 9 9 ∷ timed 7 5 ∷ timed 1 4294967295 ∷ timed 5 7 ∷ []) ∷ [] ≡ 0 ∷ 2 ∷ 0 ∷ 4294967306 ∷ []
   -- R7.1, R7.3: the words hold the tickets put in, in their order; a count beyond the places reads as 512
   pub tickets-stored : ticketsOf (storeTicket (storeTicket (storeTicket (storeTicket noTicketWords a) b) c) d) ≡ a ∷ b ∷ c ∷ d ∷ []
   pub origins-in : map (λ tag. originIn tag 0xBBBB 0xAAAA) (0 ∷ 1 ∷ 2 ∷ 3 ∷ 4 ∷ 15 ∷ []) ≡ Initial ∷ Direct 0xBBBB ∷ S4U2self 0xBBBB ∷ Delegated 0xBBBB 0xAAAA ∷ Delegated 0xBBBB 0xAAAA ∷ Delegated 0xBBBB 0xAAAA ∷ []
