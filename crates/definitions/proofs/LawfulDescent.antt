@@ -3,7 +3,7 @@
 -- Assumes nothing.
 use mathlib.Core.Path.{_≡_, refl, sym, ap, _∙_, subst}
 use mathlib.Core.Bool.{Bool, true, false, false≢true}
-use mathlib.Core.List.{List, [], _∷_, _++_, map, List·Memᴰ}
+use mathlib.Core.List.{List, [], _∷_, _++_, map, List·Memᴰ, List·Memᴰ·head, List·Memᴰ·eq-of-singleton, Memᴰ·append-left}
 use mathlib.Core.Option.{some, map-eq-some-iff}
 use Prim.Native.Nat.{ℕ, suc, _≤_, _<_}
 use native.Mathlib.Omega.{arith}
@@ -17,9 +17,9 @@ use Rattle.definitions.specs.Routes.{hasRoute}
 use Rattle.definitions.specs.Decisions.{isInitial}
 use Rattle.definitions.specs.HeldTickets.{ticketNumber, firstTicket}
 use Rattle.definitions.specs.Descent.{backOf}
-use Rattle.definitions.specs.LawfulDescent.{Entry, entryTicket, entryNumber, firstEntry, stepsBack, trailList, serviceIn, isDelegated, Steps, at-initial, one-back, itself, through, RestsOnTgt, RestsOnEvidence, Rests, AllOf, Way, WayOf, Lawful}
+use Rattle.definitions.specs.LawfulDescent.{Entry, entryTicket, entryNumber, firstEntry, stepsBack, trailList, serviceIn, isDelegated, Steps, at-initial, one-back, Along, itself, through, RestsOnTgt, RestsOnEvidence, Rests, Way, WayOf, Lawful}
 use Rattle.definitions.proofs.HeldTickets.{first-is, first-map}
-use Rattle.definitions.proofs.Lists.{map-append}
+use Rattle.definitions.proofs.Lists.{map-append, each-snoc}
 
 pub true-false : {A : Type 0} {b : Bool} → b ≡ true → b ≡ false → A
 true-false p q = absurd (false≢true (sym q ∙ p))
@@ -29,9 +29,10 @@ not-so : {b c : Bool} → (b ≡ true → c ≡ true) → c ≡ false → b ≡ 
 not-so {b = true} k e = true-false (k refl) e
 not-so {b = false} k e = refl
 
-all-snoc : (n : ℕ) (us : List Entry) (u : Entry) → AllOf n us → u .ticket .client ≡ n → AllOf n (us ++ (u ∷ []))
-all-snoc n [] u c e = (e, tt)
-all-snoc n (x ∷ us) u c e = (c .0, all-snoc n us u (c .1) e)
+-- the first ticket is among those met along the evidence
+pub first-met : {ns : List Entry} {m first : Entry} {us : List Entry} → Along ns m us first → List·Memᴰ first (us ++ (m ∷ []))
+first-met (itself i d) = List·Memᴰ·head refl
+first-met (through {entry = m} o s e a) = Memᴰ·append-left (m ∷ []) (first-met a)
 
 -- the TGT of a client, as a new entry fits it
 pub record FitsTgt (m : Entry) (g : Ticket) (c : ℕ) : Type 0 where
@@ -161,8 +162,7 @@ module _ (shut : Ticket → Bool) where
                   along = itself i d;
                   hops = f .no-hops;
                   trail = ap (λ j. take j (m .ticket .trail)) (f .no-hops);
-                  clients = tt;
-                  first-client = refl;
+                  clients = λ u i. ap (λ (v : Entry). v .ticket .client) (List·Memᴰ·eq-of-singleton i);
                   not-barred = λ q. true-false q d;
                 };
             shuts = f .shuts;
@@ -207,8 +207,7 @@ module _ (shut : Ticket → Bool) where
                   along = through o (p .stands) (f .end) (w .along);
                   hops = omega (arith, f .one-more, w .hops, length-append (w .passed) (u ∷ []));
                   trail = f .grown ∙ ap (λ x. x ++ (u .ticket .service ∷ [])) (w .trail) ∙ sym (map-append serviceIn (w .passed) (u ∷ []));
-                  clients = subst (λ c. AllOf c (w .passed ++ (u ∷ []))) (f .one-client) (all-snoc (u .ticket .client) (w .passed) u (w .clients) refl);
-                  first-client = w .first-client ∙ f .one-client;
+                  clients = each-snoc (λ v. v .ticket .client ≡ m .ticket .client) (w .passed ++ (u ∷ [])) m (λ v i. w .clients v i ∙ f .one-client) refl;
                   not-barred = λ q. clear;
                 };
             shuts = λ q. true-false q clear;

@@ -3,7 +3,7 @@
 -- Assumes nothing.
 use mathlib.Core.Path.{_≡_, refl, sym, ap, _∙_}
 use mathlib.Core.Bool.{false, false≢true}
-use mathlib.Core.List.{List, [], _∷_, _++_, map}
+use mathlib.Core.List.{List, [], _∷_, _++_, map, List·Memᴰ·eq-of-singleton}
 use mathlib.Core.Option.{Option, some, none}
 use Prim.Native.Nat.{ℕ, _≤_}
 use native.Mathlib.Omega.{arith}
@@ -16,6 +16,8 @@ use Rattle.definitions.specs.Decisions.{isInitial}
 use Rattle.definitions.specs.LawfulDescent.{Entry, firstEntry, serviceIn, isDelegated, Steps, at-initial, one-back, Along, itself, through, Way, WayOf}
 use Rattle.definitions.specs.declared.ticket.Origin.the-variants.{Initial, Direct, Delegated}
 use Rattle.definitions.specs.declared.ticket.Ticket.{Ticket}
+use Rattle.definitions.proofs.LawfulDescent.{first-met}
+use Rattle.definitions.proofs.Lists.{each-snoc}
 use Rattle.definitions.proofs.DecisionCases.{tech}
 use Rattle.definitions.proofs.CaseValues.{ticket}
 use Rattle.definitions.proofs.UnlawfulRests.{dated, got, self, tgt}
@@ -87,8 +89,7 @@ on-way =
       along = through {entry = hop-entry 0 80 (1 ∷ [])} {evidence = first-entry 0} refl refl (omega arith) (itself refl refl);
       hops = refl;
       trail = refl;
-      clients = (refl, tt);
-      first-client = refl;
+      clients = each-snoc (λ n. _≡_ {A = ℕ} (n .ticket .client) 0) (first-entry 0 ∷ []) (hop-entry 0 80 (1 ∷ [])) (λ n i. ap (λ (m : Entry). m .ticket .client) (List·Memᴰ·eq-of-singleton i)) refl;
       not-barred = λ h. refl;
     }
 
@@ -103,7 +104,7 @@ way-ends-before w = omega (arith, passed-is 0 0 91 (1 ∷ []) (w .along) .2)
 pub way-of-another : HasWay 0 3 80 (1 ∷ []) → ⊥
 way-of-another w =
     let c : _≡_ {A = ℕ} (w .first .ticket .client) 0 = ap (λ (n : Entry). n .ticket .client) (passed-is 0 3 80 (1 ∷ []) (w .along) .1) in
-    omega (arith, c, w .first-client)
+    omega (arith, c, w .clients (w .first) (first-met (w .along)))
 
 pub way-not-counted : HasWay 0 0 80 [] → ⊥
 way-not-counted w =
