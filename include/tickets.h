@@ -71,7 +71,7 @@ typedef struct {
 /* The flags of an account (R2.2). */
 enum {
     TICKETS_FLAG_DISABLED = 1,
-    TICKETS_FLAG_BARRED = 2,   /* DelegationNotAllowed */
+    TICKETS_FLAG_BARRED = 2,   /* DelegationNotAllowed: while it stands nobody hops in this account's name (R5.7) */
     TICKETS_FLAG_TRUSTED = 4,  /* TrustedToAuthenticationForDelegation */
     TICKETS_FLAG_SERVICE = 8
 };
@@ -113,7 +113,8 @@ uint32_t tickets_edit(uint64_t *accounts, uint32_t number, const uint8_t *name, 
  *   7                   the service that is named is unknown, disabled or without TICKETS_FLAG_SERVICE; for kind 3, which names none, the
  *                       TGT's client is without that flag
  *   6, 18               the user that is named is unknown; the user is disabled
- *   13                  kind 4: neither route is open, or the option CNAME-IN-ADDL-TKT is missing
+ *   13                  kind 4: the evidence's client has TICKETS_FLAG_BARRED, whatever it had when the evidence was granted; the option
+ *                       CNAME-IN-ADDL-TKT is missing; or neither route is open
  *   61                  kind 4: the evidence's trail has eight accounts already
  *   11                  the ticket would end no later than `clock`
  *   29                  the ledger holds 512 tickets, which tickets_clear can help; or ticket 65535 was given, and no number is left */

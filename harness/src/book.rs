@@ -1,5 +1,6 @@
 //! The plain book's notes and its next number (R8.2, R8.4, R8.5), and the check of lawful descent over
-//! the notes (R9.1 to R9.8). The routes of R5.7 are stated once more here, apart from the decisions.
+//! the notes (R9.1 to R9.8). The routes and the bar of R5.7 are stated once more here, apart from the
+//! decisions.
 
 use std::fmt::Debug;
 use std::rc::Rc;
@@ -198,7 +199,7 @@ fn check(ledger: &Ledger, note: &Note) -> Result<(), Broken> {
             let tgt = check_tgt(ledger, ticket, tgt)?;
             check_evidence(ticket, tgt, &path[1].ticket)?;
             check_hop(note, tgt, &path[1].ticket)?;
-            check_first(ticket, along)?;
+            check_bar(ticket, along)?;
         }
     }
     check_client(ticket, along)?;
@@ -268,12 +269,19 @@ fn route(
     classic || resource
 }
 
-/// R9.8: when the first ticket was given, a hop's client was not barred.
-fn check_first(ticket: &Ticket, along: &[&Note]) -> Result<(), Broken> {
-    let first = along[along.len() - 1];
-    let row = first.table.rows.get(usize::from(ticket.client)).and_then(Option::as_ref);
-    let barred = row.is_some_and(|account| account.flags & BARRED != 0);
-    ensure(!barred, "a hop for a client that was barred when the first ticket was given")
+/// R9.8: a hop's client was barred at no ticket along the evidence, by the table of each: not at the
+/// first ticket, at no hop between, and not at the hop itself.
+fn check_bar(ticket: &Ticket, along: &[&Note]) -> Result<(), Broken> {
+    let barred = |note: &&Note| {
+        let row = note.table.rows.get(usize::from(ticket.client)).and_then(Option::as_ref);
+        row.is_some_and(|account| account.flags & BARRED != 0)
+    };
+    let first = along.len() - 1;
+    let (own, between, first) = (&along[..1], &along[1..first], &along[first..]);
+    let none = |notes: &[&Note], broken| ensure(!notes.iter().any(barred), broken);
+    none(first, "a hop for a client that was barred when the first ticket was given")?;
+    none(between, "a hop for a client that was barred when a hop before it was given")?;
+    none(own, "a hop for a client that was barred when it was given")
 }
 
 /// R9.5: one client along the evidence.
@@ -325,6 +333,7 @@ mod tests {
 
     /// The TGTs of the services (0 to 8) and of `tech` (9), an S4U2self ticket (10) with eight hops
     /// over both routes (11 to 18), and a direct ticket (19) with one hop by the resource route (20).
+    /// Between these two `tech` is barred and the bar lifted, and after all it is barred.
     fn history() -> Day {
         let mut day = accounts();
         let tgts = SERVICES.map(|name| day.grant(&kind_1(name), 1000));
@@ -335,11 +344,13 @@ mod tests {
             evidence = day.grant(&hop, 1000);
         }
         let direct = day.grant(&kind_2(&client, "s2"), 1000);
-        day.set(0, "tech", 2, 0, 0);
+        day.set_flags(0, 2);
+        day.set_flags(0, 4);
         day.grant(&kind_4(&tgts[1], &direct, "s3").pac_options(RESOURCE_BASED), 1000);
         for (number, name) in (1..).zip(SERVICES) {
             day.set(number, name, 9, 0, 0);
         }
+        day.set_flags(0, 2);
         day
     }
 
@@ -540,20 +551,72 @@ mod tests {
         assert_eq!(marked, "ticket 20: no route permits a hop");
     }
 
+    /// The notes of the history, where `tech` was barred at the ticket of this place.
+    fn barred(at: usize) -> Vec<Note> {
+        let Book { mut notes, .. } = history().book;
+        notes[at].table = edited(&notes[at].table, 0, "tech", 2);
+        notes
+    }
+
     #[test]
-    fn r9_8_no_hop_if_the_client_was_barred_at_first() {
-        let said = "a hop for a client that was barred when the first ticket was given";
-        for (first, hop) in [(S4U2SELF, HOP_1), (DIRECT, RESOURCE_HOP)] {
-            let barred =
-                damaged(|notes| notes[first].table = edited(&notes[0].table, 0, "tech", 2));
-            assert_eq!(barred, format!("ticket {hop}: {said}"));
+    fn r9_8_no_hop_for_a_client_who_was_barred_along_the_evidence() {
+        for (at, asked, when) in [
+            (S4U2SELF, HOP_1, "the first ticket was given"),
+            (S4U2SELF, HOP_2, "the first ticket was given"),
+            (S4U2SELF, HOP_8, "the first ticket was given"),
+            (DIRECT, RESOURCE_HOP, "the first ticket was given"),
+            (HOP_1, HOP_2, "a hop before it was given"),
+            (HOP_1, HOP_8, "a hop before it was given"),
+            (HOP_2, HOP_8, "a hop before it was given"),
+            (HOP_8 - 1, HOP_8, "a hop before it was given"),
+            (HOP_1, HOP_1, "it was given"),
+            (HOP_2, HOP_2, "it was given"),
+            (HOP_8, HOP_8, "it was given"),
+            (RESOURCE_HOP, RESOURCE_HOP, "it was given"),
+        ] {
+            let said = format!("ticket {asked}: a hop for a client that was barred when {when}");
+            assert_eq!(lawful(&barred(at), asked), Err(said));
         }
-        // Ticket 18 comes first in the list, and its numbers lead back as before.
-        let eighth = damaged(|notes| {
-            notes[S4U2SELF].table = edited(&notes[0].table, 0, "tech", 2);
-            notes.swap(HOP_1, HOP_8);
-        });
-        assert_eq!(eighth, format!("ticket 18: {said}"));
+    }
+
+    #[test]
+    fn r9_8_a_bar_counts_at_tickets_along_the_evidence_alone() {
+        // At a TGT, at a later hop, along other evidence, and for a ticket that is not delegated.
+        for (at, asked) in [
+            (0, HOP_1),
+            (9, RESOURCE_HOP),
+            (HOP_2, HOP_1),
+            (HOP_8, HOP_2),
+            (DIRECT, HOP_8),
+            (S4U2SELF, RESOURCE_HOP),
+            (S4U2SELF, S4U2SELF),
+            (DIRECT, DIRECT),
+        ] {
+            let notes = barred(at);
+            assert_eq!(check(&Ledger::of(&notes), &notes[asked]), Ok(()), "{at}, {asked}");
+        }
+    }
+
+    #[test]
+    fn r9_8_bars_between_two_tickets_and_later_ones_are_lawful() {
+        let mut day = Day::morning();
+        day.set(1, "web", 12, 0x6, 0);
+        let tgt = day.grant(&kind_1("web"), 1000);
+        let mut evidence = day.grant(&kind_3(&tgt, "tech"), 1010);
+        for _ in 0..3 {
+            let hop = kind_4(&tgt, &evidence, "web");
+            day.set_flags(0, 2);
+            assert_eq!(day.ask(&hop, 1020), Err(13));
+            day.set_flags(0, 0);
+            evidence = day.grant(&hop, 1020);
+        }
+        day.set_flags(0, 2);
+        assert_eq!(lawful(&day.book.notes, 0), Ok(()));
+        // Service 1, which is Service 2 too, is barred at a hop for another client.
+        day.set_flags(0, 0);
+        day.set_flags(1, 14);
+        day.grant(&kind_4(&tgt, &evidence, "web"), 1020);
+        assert_eq!(lawful(&day.book.notes, 0), Ok(()));
     }
 
     #[test]

@@ -248,8 +248,8 @@ fn s4u2self(
     })
 }
 
-/// R6.6: the checks of a hop: 13 unless its option stands and a route holds (R5.7), 61 where the
-/// trail cannot grow.
+/// R6.6: the checks of a hop: 13 unless its option stands, the evidence's client is not barred and a
+/// route holds (R5.7); 61 where the trail cannot grow.
 fn check_hop(
     request: &Request,
     table: &Table,
@@ -259,7 +259,8 @@ fn check_hop(
 ) -> Result<(), Error> {
     let route = classic_route(table, service_1, service_2, evidence)
         || resource_route(table, service_1, service_2, request.pac_options, evidence);
-    ensure(has_cname_in_addl_tkt(request) && route, Error::BadOption)?;
+    let barred = table.is_barred(evidence.client);
+    ensure(has_cname_in_addl_tkt(request) && !barred && route, Error::BadOption)?;
     ensure(usize::from(evidence.hops) < TRAIL_LIMIT, Error::FieldTooLong)
 }
 
@@ -386,19 +387,54 @@ mod tests {
         assert_eq!(day.ask(&kind_4(&tgt, &eighth, "store"), 1010), Err(61));
     }
 
-    /// R11.2: a hop where the send set has Service 2, the receive set has Service 1, resource-based is
-    /// asked for, and the evidence is FORWARDABLE or marked, each as given. The evidence is a direct
-    /// ticket of `tech`.
-    fn hop([send, receive, resource, forwardable, mark]: [bool; 5]) -> Result<Ticket, u8> {
-        let mut day = Day::morning();
-        day.set(0, "tech", if mark { 2 } else { 0 }, 0, 0);
-        day.set(1, "web", 8, if send { 0x4 } else { 0 }, 0);
-        day.set(2, "store", 8, 0, if receive { 0x2 } else { 0 });
-        let asked = forwardable_if(forwardable);
+    /// R11.2: the answers of H1 to H8, each with what it hangs on: Service 2 in the send set, Service 1
+    /// in the receive set, resource-based, and the evidence's FORWARDABLE and mark.
+    const HOPS: [(u8, [bool; 5]); 8] = {
+        const Y: bool = true;
+        const N: bool = false;
+        [
+            (0, [Y, N, N, Y, N]),
+            (13, [Y, N, N, N, N]),
+            (13, [N, Y, N, Y, N]),
+            (0, [N, Y, Y, Y, N]),
+            (0, [N, Y, Y, N, N]),
+            (13, [N, Y, Y, N, Y]),
+            (0, [Y, N, Y, Y, N]),
+            (13, [Y, N, Y, N, N]),
+        ]
+    };
+
+    /// How evidence of `tech` for `web` is come by, with `web`'s TGT and the option FORWARDABLE or none.
+    type Evidence = fn(&mut Day, &Ticket, u32) -> Ticket;
+
+    /// A direct ticket.
+    fn direct_evidence(day: &mut Day, _: &Ticket, asked: u32) -> Ticket {
         let client = day.grant(&kind_1("tech").options(asked), 1000);
-        let evidence = day.grant(&kind_2(&client, "web").options(asked), 1000);
-        assert_eq!((is_forwardable(&evidence), evidence.barred), (forwardable, mark));
+        day.grant(&kind_2(&client, "web").options(asked), 1000)
+    }
+
+    /// An S4U2self ticket.
+    fn self_evidence(day: &mut Day, tgt: &Ticket, _: u32) -> Ticket {
+        day.grant(&kind_3(tgt, "tech"), 1000)
+    }
+
+    /// The error number of a request, 0 for a grant.
+    fn error(day: &mut Day, request: &Asked, clock: u32) -> u8 {
+        day.ask(request, clock).err().unwrap_or(0)
+    }
+
+    /// R11.2: the error number of a hop that hangs on these, 0 for a grant. `tech` has these flags when
+    /// it is asked for; a mark comes of a bar when the evidence was.
+    fn hop(hangs_on: [bool; 5], evidence: Evidence, flags: u32) -> u8 {
+        let [send, receive, resource, forwardable, mark] = hangs_on;
+        let mut day = Day::morning();
+        day.set_flags(0, if mark { 2 } else { 0 });
+        day.set(1, "web", if forwardable { 12 } else { 8 }, if send { 0x4 } else { 0 }, 0);
+        day.set(2, "store", 8, 0, if receive { 0x2 } else { 0 });
         let tgt = day.grant(&kind_1("web"), 1000);
+        let evidence = evidence(&mut day, &tgt, forwardable_if(forwardable));
+        assert_eq!((is_forwardable(&evidence), evidence.barred), (forwardable, mark));
+        day.set_flags(0, flags);
         let request = kind_4(&tgt, &evidence, "store");
         let hop =
             day.ask(&if resource { request.pac_options(RESOURCE_BASED) } else { request }, 1000);
@@ -406,24 +442,174 @@ mod tests {
             assert_eq!(marks(ticket), marks(evidence));
             assert_eq!((ticket.client, ticket.service, ticket.hops), (0, 2, 1));
         }
-        hop
+        hop.err().unwrap_or(0)
     }
 
     #[test]
     fn r11_2_the_hops_h1_to_h8() {
-        const Y: bool = true;
-        const N: bool = false;
-        for (line, fields, error) in [
-            (1, [Y, N, N, Y, N], 0),
-            (2, [Y, N, N, N, N], 13),
-            (3, [N, Y, N, Y, N], 13),
-            (4, [N, Y, Y, Y, N], 0),
-            (5, [N, Y, Y, N, N], 0),
-            (6, [N, Y, Y, N, Y], 13),
-            (7, [Y, N, Y, Y, N], 0),
-            (8, [Y, N, Y, N, N], 13),
+        for (line, (answer, hangs_on)) in (1..).zip(HOPS) {
+            for evidence in [direct_evidence, self_evidence] {
+                // The flags of a client who is neither disabled nor barred.
+                for flags in [0, 4, 8, 12] {
+                    assert_eq!(hop(hangs_on, evidence, flags), answer, "H{line}, flags {flags}");
+                }
+            }
+        }
+    }
+
+    #[test]
+    fn r11_2_h1_to_h8_with_a_barred_client_are_13() {
+        for (line, (_, hangs_on)) in (1..).zip(HOPS) {
+            for evidence in [direct_evidence, self_evidence] {
+                for flags in [2, 6, 10, 14] {
+                    assert_eq!(hop(hangs_on, evidence, flags), 13, "H{line}, flags {flags}");
+                    assert_eq!(hop(hangs_on, evidence, flags | 1), 18, "H{line}, disabled too");
+                }
+            }
+        }
+    }
+
+    /// R5.7: the send set of `web` and the receive set of `store` where the classic route alone is open,
+    /// the resource route alone, and both.
+    const OPEN: [(u64, u64); 3] = [(0x4, 0), (0, 0x2), (0x4, 0x2)];
+
+    /// The day of the morning's two tickets with these sets, and the hop on them.
+    fn open_hop((send, receive): (u64, u64)) -> (Day, Asked) {
+        let (mut day, tgt, evidence) = two_tickets();
+        day.set(1, "web", 12, send, 0);
+        day.set(2, "store", 8, 0, receive);
+        (day, kind_4(&tgt, &evidence, "store").pac_options(RESOURCE_BASED))
+    }
+
+    #[test]
+    fn r5_7_a_bar_counts_on_either_route_until_it_is_lifted() {
+        for sets in OPEN {
+            let (mut day, hop) = open_hop(sets);
+            let answers = [0, 2, 0, 2, 8, 10].map(|flags| {
+                day.set_flags(0, flags);
+                error(&mut day, &hop, 1020)
+            });
+            assert_eq!(answers, [0, 13, 0, 13, 0, 13], "{sets:?}");
+        }
+    }
+
+    #[test]
+    fn r5_7_a_bar_counts_whatever_the_evidence_says() {
+        let (mut day, tgt, evidence) = two_tickets();
+        day.set(2, "store", 8, 0, 0x2);
+        // Evidence with the mark and FORWARDABLE stands in foreign states only.
+        for (number, flags, mark) in
+            [(70, FORWARDABLE, true), (71, u32::MAX, false), (72, 0, false)]
+        {
+            let evidence = Ticket { number, flags, barred: mark, ..evidence };
+            day.service.ledger.push(evidence);
+            let hop = kind_4(&tgt, &evidence, "store").pac_options(RESOURCE_BASED);
+            day.set_flags(0, 0);
+            assert_eq!(error(&mut day, &hop, 1020), 0);
+            day.set_flags(0, 2);
+            assert_eq!(error(&mut day, &hop, 1020), 13);
+        }
+    }
+
+    #[test]
+    fn r5_7_the_bar_is_asked_of_each_hop() {
+        let (mut day, tgt, evidence) = two_tickets();
+        day.set(1, "web", 12, 0x6, 0);
+        let second = day.grant(&kind_4(&tgt, &evidence, "web"), 1020);
+        let third = day.grant(&kind_4(&tgt, &second, "web"), 1020);
+        for (flags, answer) in [(2, 13), (0, 0), (3, 18)] {
+            day.set_flags(0, flags);
+            for evidence in [evidence, second, third] {
+                assert_eq!(error(&mut day, &kind_4(&tgt, &evidence, "store"), 1020), answer);
+            }
+        }
+    }
+
+    #[test]
+    fn r5_8_a_bar_of_service_1_or_service_2_has_no_effect() {
+        for sets in OPEN {
+            let (mut day, hop) = open_hop(sets);
+            let expected = day.grant(&hop, 1020);
+            for (web, store) in [(14, 8), (12, 10), (14, 10)] {
+                day.set_flags(1, web);
+                day.set_flags(2, store);
+                let ticket = day.grant(&hop, 1020);
+                assert_eq!(Ticket { number: expected.number, ..ticket }, expected);
+            }
+            day.set_flags(0, 2);
+            assert_eq!(day.ask(&hop, 1020), Err(13));
+        }
+    }
+
+    #[test]
+    fn r5_8_a_bar_of_service_1_or_service_2_counts_where_it_is_the_client() {
+        for sets in OPEN {
+            let (mut day, _) = open_hop(sets);
+            let tgt = day.grant(&kind_1("web"), 1010);
+            let hops = ["web", "store"].map(|user| {
+                let evidence = day.grant(&kind_3(&tgt, user), 1010);
+                kind_4(&tgt, &evidence, "store").pac_options(RESOURCE_BASED)
+            });
+            for (web, store, answers) in
+                [(12, 8, [0, 0]), (14, 8, [13, 0]), (12, 10, [0, 13]), (14, 10, [13, 13])]
+            {
+                day.set_flags(1, web);
+                day.set_flags(2, store);
+                assert_eq!(hops.each_ref().map(|hop| error(&mut day, hop, 1020)), answers);
+            }
+        }
+    }
+
+    #[test]
+    fn r6_2_the_bar_comes_after_the_evidence_and_7() {
+        let (mut day, tgt, evidence) = two_tickets();
+        let other = day.grant(&kind_4(&tgt, &evidence, "store"), 1020);
+        let altered = Ticket { client: 1, ..evidence };
+        day.set_flags(0, 2);
+        for (evidence, service, clock, answer) in [
+            (altered, "store", 1020, 41),
+            (evidence, "store", 709, 33),
+            (evidence, "store", 37000, 32),
+            (other, "store", 1020, 26),
+            (evidence, "ghost", 1020, 7),
+            (evidence, "tech", 1020, 7),
+            (evidence, "store", 1020, 13),
         ] {
-            assert_eq!(hop(fields).map_or_else(|error| error, |_| 0), error, "H{line}");
+            assert_eq!(error(&mut day, &kind_4(&tgt, &evidence, service), clock), answer);
+        }
+        day.set_flags(2, 9);
+        assert_eq!(day.ask(&kind_4(&tgt, &evidence, "store"), 1020), Err(7));
+    }
+
+    #[test]
+    fn r6_2_the_bar_comes_before_61_11_and_29() {
+        let (mut day, tgt, eighth) = eight_hops();
+        let hop = |evidence: &Ticket| kind_4(&tgt, evidence, "web");
+        let first = day.service.ledger[1];
+        let answers = |day: &mut Day| {
+            [hop(&eighth), hop(&first).till(1020), hop(&first)].map(|hop| error(day, &hop, 1020))
+        };
+        day.service.next = u64::from(LAST_NUMBER) + 1;
+        assert_eq!(answers(&mut day), [61, 11, 29]);
+        day.set_flags(0, 2);
+        assert_eq!(answers(&mut day), [13, 13, 13]);
+    }
+
+    #[test]
+    fn r5_4_kinds_1_to_3_are_granted_whoever_is_barred() {
+        let (mut day, tgt, _) = two_tickets();
+        let client = day.grant(&kind_1("tech"), 1010);
+        day.set_flags(0, 2);
+        day.set_flags(1, 14);
+        for request in [
+            kind_1("tech"),
+            kind_1("web"),
+            kind_2(&client, "web"),
+            kind_2(&tgt, "store"),
+            kind_3(&tgt, "tech"),
+            kind_3(&tgt, "web"),
+        ] {
+            assert!(day.grant(&request, 1020).barred, "{request:?}");
         }
     }
 
@@ -465,7 +651,7 @@ mod tests {
 
     /// The error number of a request at each of these clock readings, 0 for a grant.
     fn errors<const N: usize>(day: &mut Day, request: &Asked, clocks: [u32; N]) -> [u8; N] {
-        clocks.map(|clock| day.ask(request, clock).map_or_else(|error| error, |_| 0))
+        clocks.map(|clock| error(day, request, clock))
     }
 
     #[test]
@@ -739,14 +925,6 @@ mod tests {
         day.set(2, "store", 8, 0, 0x2);
         let resource = kind_4(&tgt, &none, "store").pac_options(RESOURCE_BASED);
         assert_eq!(marks(day.grant(&resource, 1010)), (0, false));
-    }
-
-    #[test]
-    fn r5_8_a_client_barred_later_hops_on_old_evidence() {
-        let (mut day, tgt, evidence) = two_tickets();
-        day.set(0, "tech", 2, 0, 0);
-        let hop = day.grant(&kind_4(&tgt, &evidence, "store"), 1010);
-        assert_eq!(marks(hop), (FORWARDABLE, false));
     }
 
     #[test]

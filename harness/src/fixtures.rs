@@ -1,6 +1,6 @@
 //! Requests (R4.1), accounts (R11.1) and days for the tests of this crate.
 
-use crate::accounts::Edit;
+use crate::accounts::{Account, Edit};
 use crate::book::Book;
 use crate::decisions::CNAME_IN_ADDL_TKT;
 use crate::limits::LONGEST_RECORD;
@@ -119,6 +119,14 @@ impl Day {
     /// An edit that is stored.
     pub fn set(&mut self, number: u32, name: &str, flags: u32, send: u64, receive: u64) {
         assert_eq!(self.service.edit(&edit(number, name, flags, send, receive)), Ok(()));
+    }
+
+    /// An edit that is stored, and changes nothing of a set account but its flags.
+    pub fn set_flags(&mut self, number: u32, flags: u32) {
+        let account = self.service.table.rows[number as usize].unwrap();
+        let Account { send, receive, lifetime, .. } = account;
+        let edit = Edit { number, name: account.name(), flags, send, receive, lifetime };
+        assert_eq!(self.service.edit(&edit), Ok(()));
     }
 
     /// An edit that is stored, with another lifetime and empty sets.

@@ -113,6 +113,8 @@ fn seconds(ticket: &Ticket) -> u64 {
 #[cfg(test)]
 mod tests {
     use super::*;
+    use crate::book;
+    use crate::decisions::RESOURCE_BASED;
     use crate::fixtures::{kind_1, kind_2, kind_3, kind_4, record, Day, LIFETIME};
     use crate::limits::{LAST_NUMBER, LAST_SECOND, LONGEST_RECORD, TRAIL_LIMIT};
     use crate::record::{read_ticket, Origin, NO_TRAIL};
@@ -123,16 +125,28 @@ mod tests {
         [&b"\x00\x51\x03"[..], &counted(TICKET_0), &counted(b"tech")].concat()
     }
 
+    /// W3, with ticket 1 as its evidence.
+    fn w3() -> Vec<u8> {
+        w3_with(&counted(TICKET_1))
+    }
+
+    /// Makes a request that is granted with this record.
+    fn granted(day: &mut Day, request: &[u8], clock: u32, expected: &[u8]) {
+        assert_eq!(record(&day.ask_bytes(request, clock).unwrap()), expected);
+    }
+
+    /// The morning up to W2.
+    fn after_w2() -> Day {
+        let mut day = Day::morning();
+        granted(&mut day, &w1(), 1000, TICKET_0);
+        granted(&mut day, &w2(), 1010, TICKET_1);
+        day
+    }
+
     /// The morning up to W3.
     fn after_w3() -> Day {
-        let mut day = Day::morning();
-        let w3 = w3_with(&counted(TICKET_1));
-        for (request, clock, expected) in
-            [(w1(), 1000, TICKET_0), (w2(), 1010, TICKET_1), (w3, 1020, TICKET_2)]
-        {
-            let ticket = day.ask_bytes(&request, clock).unwrap();
-            assert_eq!(record(&ticket), expected);
-        }
+        let mut day = after_w2();
+        granted(&mut day, &w3(), 1020, TICKET_2);
         day
     }
 
@@ -155,9 +169,8 @@ mod tests {
 
     #[test]
     fn r11_3_the_morning() {
-        let w3 = w3_with(&counted(TICKET_1));
-        assert_eq!(after_w3().ask_bytes(&w3, 37000), Err(32));
-        let fourth = after_w3().ask_bytes(&w3, 36999).unwrap();
+        assert_eq!(after_w3().ask_bytes(&w3(), 37000), Err(32));
+        let fourth = after_w3().ask_bytes(&w3(), 36999).unwrap();
         assert_eq!((fourth.number, fourth.start, fourth.end), (3, 36999, 37000));
     }
 
@@ -356,14 +369,13 @@ mod tests {
     #[test]
     fn r11_5_the_morning_cleared() {
         let mut day = after_w3();
-        let w3 = w3_with(&counted(TICKET_1));
         assert_eq!([36999, 37000, 37000].map(|clock| day.clear(clock)), [0, 3, 0]);
         assert_eq!((&day.service.ledger, day.service.day_total()), (&vec![], 0));
         assert_eq!(day.service.descent(0), Err(Error::Modified));
         assert_eq!(day.ask_bytes(&w2(), 1010), Err(41));
-        assert_eq!(day.ask_bytes(&w3, 1020), Err(41));
+        assert_eq!(day.ask_bytes(&w3(), 1020), Err(41));
         let third = b"\x00\x37\x00\x03\x00\x40\x00\x00\x01\x00\x00\x03\xe8\x00\x00\x90\x88";
-        assert_eq!(record(&day.ask_bytes(&w1(), 1000).unwrap()), third);
+        granted(&mut day, &w1(), 1000, third);
     }
 
     #[test]
@@ -373,6 +385,52 @@ mod tests {
         assert_eq!(day.ask_bytes(&w1(), 1000), Err(29));
         assert_eq!(day.clear(37000), 512);
         assert_eq!(day.ask_bytes(&w1(), 1000).unwrap().number, 512);
+    }
+
+    #[test]
+    fn r11_7_w3_after_edits_of_flags() {
+        for (edits, expected) in [
+            (&[(0, 2)][..], Err(13)),
+            (&[(0, 2), (0, 0)], Ok(TICKET_2)),
+            (&[(0, 3)], Err(18)),
+            (&[(1, 14), (2, 10)], Ok(TICKET_2)),
+        ] {
+            let mut day = after_w2();
+            edits.iter().for_each(|&(number, flags)| day.set_flags(number, flags));
+            let answer = day.ask_bytes(&w3(), 1020).map(|ticket| record(&ticket));
+            assert_eq!(answer, expected.map(<[u8]>::to_vec), "{edits:?}");
+        }
+    }
+
+    #[test]
+    fn r11_7_a_mark_stays_when_the_bar_is_lifted() {
+        let mut day = Day::morning();
+        let tgt = day.ask_bytes(&w1(), 1000).unwrap();
+        day.set_flags(0, 2);
+        let marked = day.ask_bytes(&w2(), 1010).unwrap();
+        let first =
+            b"\x06\x7f\x00\x01\x00\x00\x00\x00\x00\x01\x00\x00\x03\xf2\x00\x00\x90\x88\x00\x00";
+        assert_eq!(record(&marked), first);
+        day.set_flags(0, 0);
+        day.set(2, "store", 8, 0, 0x2);
+        let hop = kind_4(&tgt, &marked, "store");
+        assert_eq!(day.ask(&hop, 1020), Err(13));
+        assert_eq!(day.ask(&hop.pac_options(RESOURCE_BASED), 1020), Err(13));
+    }
+
+    #[test]
+    fn r11_7_a_hop_stays_when_its_client_is_barred_later() {
+        let mut day = after_w3();
+        let store = day.grant(&kind_1("store"), 1020);
+        let ticket = day.service.ledger[2];
+        day.set(2, "store", 8, 0x2, 0);
+        day.set_flags(0, 2);
+        assert_eq!((record(&ticket), day.service.descent(2)), (TICKET_2.to_vec(), Ok(2)));
+        assert_eq!(book::lawful(&day.book.notes, 0), Ok(()));
+        let hop = kind_4(&store, &ticket, "web");
+        assert_eq!(day.ask(&hop, 1020), Err(13));
+        day.set_flags(0, 0);
+        assert_eq!(day.grant(&hop, 1020).trail[..2], [1, 2]);
     }
 
     #[test]

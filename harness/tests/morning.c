@@ -1,6 +1,6 @@
-/* The morning of R11.3, and the clearing of R11.5 after it, over include/tickets.h: by the calls over a tickets_service, and again by the
- * plain calls. Every answer is compared with the bytes that the rules give. Prints the four lines of the morning; a difference goes to
- * standard error, and ends the program with 1. */
+/* The morning of R11.3, with the bar of R11.7 before W3, and the clearing of R11.5 after it, over include/tickets.h: by the calls over a
+ * tickets_service, and again by the plain calls. Every answer is compared with the bytes that the rules give. Prints the four lines of the
+ * morning; a difference goes to standard error, and ends the program with 1. */
 #include <stdio.h>
 #include <stdlib.h>
 #include <string.h>
@@ -122,10 +122,16 @@ static request w3(void)
     return made;
 }
 
+/* `tech`, with these flags. */
+static void set_tech(const calls *by, tickets_service *service, uint32_t flags)
+{
+    expect(by->edit(service, 0, (const uint8_t *)"tech", 4, flags, 0, 0, 36000) == 0, "the edit of tech");
+}
+
 /* The three accounts of the morning. */
 static void set_accounts(const calls *by, tickets_service *service)
 {
-    expect(by->edit(service, 0, (const uint8_t *)"tech", 4, 0, 0, 0, 36000) == 0, "the edit of tech");
+    set_tech(by, service, 0);
     uint32_t flags = TICKETS_FLAG_TRUSTED | TICKETS_FLAG_SERVICE;
     expect(by->edit(service, 1, (const uint8_t *)"web", 3, flags, 0x4, 0, 36000) == 0, "the edit of web");
     expect(by->edit(service, 2, (const uint8_t *)"store", 5, TICKETS_FLAG_SERVICE, 0, 0, 36000) == 0, "the edit of store");
@@ -181,6 +187,16 @@ static void refused(const calls *by, tickets_service *service, const uint8_t *by
     }
 }
 
+/* The hop is refused while `tech`, its client, is barred; once the bar is lifted, the service is as before. */
+static void bar(const calls *by, tickets_service *service, const request *hop)
+{
+    tickets_service before = *service;
+    set_tech(by, service, TICKETS_FLAG_BARRED);
+    refused(by, service, hop->bytes, hop->length, 1020, OUTPUT, TICKETS_KDC_ERR_BADOPTION, 0);
+    set_tech(by, service, 0);
+    expect(memcmp(&before, service, sizeof before) == 0, "a bar that is lifted leaves the service as before");
+}
+
 /* The descent of each ticket, of a number that is not held, and the day total. */
 static void look_back(const calls *by, const tickets_service *service)
 {
@@ -207,7 +223,8 @@ static void clear_out(const calls *by, tickets_service *service)
     expect(by->day_total(service) == 0, "the day total of an empty ledger");
 }
 
-/* The morning from a service whose words are not 0, to W4; then the clearing, the requests with tickets that went, and W1 once more. */
+/* The morning from a service whose words are not 0, with the bar before W3, to W4; then the clearing, the requests with tickets that went,
+ * and W1 once more. */
 static void morning(const calls *by, tickets_service *service, int print)
 {
     request second = w2();
@@ -222,6 +239,7 @@ static void morning(const calls *by, tickets_service *service, int print)
     refused(by, service, third.bytes, third.length, 709, OUTPUT, TICKETS_KRB_AP_ERR_TKT_NYV, 0);
     refused(by, service, third.bytes, third.length, 1020, TICKETS_LONGEST_RECORD - 1, TICKETS_KRB_ERR_RESPONSE_TOO_BIG, 0);
     refused(by, service, third.bytes, third.length - 1, 1020, OUTPUT, TICKETS_KRB_ERR_GENERIC, 0);
+    bar(by, service, &third);
     granted(by, service, third.bytes, third.length, 1020, TICKET_2, sizeof TICKET_2, print);
     refused(by, service, third.bytes, third.length, 37000, OUTPUT, TICKETS_KRB_AP_ERR_TKT_EXPIRED, print);
     look_back(by, service);

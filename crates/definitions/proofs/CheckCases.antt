@@ -230,6 +230,8 @@ pub record CheckCases : Type 0 where
   pub flags-2 : flagged-2 0 8 ∷ flagged-2 1 8 ∷ flagged-2 0 0 ∷ flagged-2 0 9 ∷ flagged-2 0 7 ∷ [] ≡ 0 ∷ 18 ∷ 7 ∷ 7 ∷ 7 ∷ []
   pub flags-3 : flagged-3 0 8 ∷ flagged-3 1 8 ∷ flagged-3 0 9 ∷ flagged-3 0 6 ∷ flagged-3 14 14 ∷ [] ≡ 0 ∷ 18 ∷ 18 ∷ 7 ∷ 0 ∷ []
   pub flags-4 : flagged-4 0 0 8 ∷ flagged-4 1 0 8 ∷ flagged-4 0 1 8 ∷ flagged-4 0 0 9 ∷ flagged-4 0 8 6 ∷ flagged-4 0 0 14 ∷ [] ≡ 0 ∷ 18 ∷ 18 ∷ 7 ∷ 7 ∷ 0 ∷ []
+  -- R6.4 to R6.6: whose flag 2 counts, for 13; of a client who is disabled too it is 18, and a service that is none is 7
+  pub bars-4 : flagged-4 2 0 8 ∷ flagged-4 0 2 8 ∷ flagged-4 0 0 10 ∷ flagged-4 2 2 10 ∷ flagged-4 3 0 8 ∷ flagged-4 2 0 0 ∷ [] ≡ 13 ∷ 0 ∷ 0 ∷ 13 ∷ 18 ∷ 7 ∷ []
   -- R6.7, R6.2: 512 tickets held are 29, 511 are not; 30 bytes of output are 52, 31 are not
   pub places : answer-1 511 31 ∷ answer-1 512 31 ∷ answer-1 513 31 ∷ [] ≡ 0 ∷ 29 ∷ 29 ∷ []
   pub output-room : answer-1 0 30 ∷ answer-1 0 31 ∷ answer-1 0 32 ∷ answer-1 0 0 ∷ [] ≡ 52 ∷ 0 ∷ 0 ∷ 52 ∷ []
@@ -278,6 +280,7 @@ check-cases =
       flags-2 = refl;
       flags-3 = refl;
       flags-4 = refl;
+      bars-4 = refl;
       places = refl;
       output-room = refl;
     }

@@ -3,7 +3,7 @@
 -- Assumes nothing.
 use mathlib.Core.Path.{_≡_, refl}
 use mathlib.Core.Bool.{Bool, true, false, cond}
-use mathlib.Core.List.{List, [], _∷_, _++_}
+use mathlib.Core.List.{List, [], _∷_, _++_, map}
 use Prim.Native.Nat.{ℕ, _+_}
 use lib.ListN.{replicate}
 use Rattle.definitions.specs.Errors.{answerNumber}
@@ -57,6 +57,10 @@ tgt flags mark = ticket 5 flags 1 0 500 5000 Initial [] mark
 
 abbrev evidence : ℕ → Bool → Ticket
 evidence flags mark = ticket 7 flags 0 1 600 5000 (Direct 5) [] mark
+
+-- evidence of `web` to itself
+abbrev own-evidence : Ticket
+own-evidence = ticket 7 0x40000000 1 1 600 5000 (S4U2self 5) [] false
 
 abbrev third : Ticket
 third = ticket 9 0 2 0 0 0 Initial [] false
@@ -134,10 +138,10 @@ table-3 bar =
     summary (kind-3 (cond bar 2 0) (cond trust 12 8) (cond sends 1 0) (tgt (forwardable fwd) false) (asking ask)) ∷ []))))
 
 -- kind 4: Service 2 in the send set, evidence FORWARDABLE; Service 1 in the receive set, resource-based asked, evidence marked
-abbrev table-4 : Bool → List ℕ
-table-4 option =
+abbrev table-4 : Bool → Bool → List ℕ
+table-4 bar option =
     both (λ send. both (λ fwd. both (λ receive. both (λ pac. both (λ mark.
-    number (kind-4 (table 0 12 8 (cond send 4 0) (cond receive 2 0)) (cond option cname nothing) (cond pac resource nothing) (tgt 0 false) (evidence (forwardable fwd) mark)) ∷ [])))))
+    number (kind-4 (table (cond bar 2 0) 12 8 (cond send 4 0) (cond receive 2 0)) (cond option cname nothing) (cond pac resource nothing) (tgt 0 false) (evidence (forwardable fwd) mark)) ∷ [])))))
 
 -- the resource route where the classic one is shut
 abbrev resource-only : List ℕ
@@ -149,8 +153,9 @@ pub record GrantCases : Type 0 where
   pub all-2 : table-2 ≡ 0 ∷ 1 ∷ 1 ∷ 1 ∷ 0 ∷ 1 ∷ 1 ∷ 1 ∷ 0 ∷ 1 ∷ 1 ∷ 1 ∷ 0x40000000 ∷ 1 ∷ 1 ∷ 1 ∷ []
   pub all-3 : table-3 false ≡ 0 ∷ 0 ∷ 0 ∷ 0x40000000 ∷ 0 ∷ 0 ∷ 0 ∷ 0 ∷ replicate 8 0x40000000
   pub all-3-barred : table-3 true ≡ replicate 16 1
-  pub all-4 : table-4 true ≡ resource-only ++ resource-only ++ resource-only ++ replicate 8 0
-  pub all-4-no-option : table-4 false ≡ replicate 32 13
+  pub all-4 : table-4 false true ≡ resource-only ++ resource-only ++ resource-only ++ replicate 8 0
+  pub all-4-barred : table-4 true true ≡ replicate 32 13
+  pub all-4-no-option : table-4 false false ≡ replicate 32 13
   -- R5.4: the user's bar gives the mark; FORWARDABLE is asked for and there is no mark; no other option counts, nor another flag
   pub first-plain : kind-1 0 nothing ≡ first-ticket 0x00400000 false
   pub first-asked : kind-1 0 asked ≡ first-ticket 0x40400000 false
@@ -180,11 +185,15 @@ pub record GrantCases : Type 0 where
   pub no-set : number (kind-4 (table 0 12 8 0xFFFFFFFFFFFFFFFB 0xFFFFFFFFFFFFFFFD) cname resource (tgt 0x40000000 false) (evidence 0x40000000 false)) ≡ 13
   pub no-forwardable : number (kind-4 (table 0 12 8 0x4 0) cname resource (tgt 0x40000000 false) (evidence 0xBFFFFFFF false)) ≡ 13
   pub no-clean-evidence : number (kind-4 (table 0 12 8 0 0x2) cname resource (tgt 0 false) (evidence 0x40000000 true)) ≡ 13
-  -- R5.8: client, mark and FORWARDABLE are the evidence's, no other flag of it; today's bar, the TGT's flags and mark do not count
+  -- R5.7: the bar is the client's, on either route; that of Service 1 or Service 2 does not count, unless it is the client
+  pub bar-of-services : kind-4 (table 0 14 10 0x4 0) cname nothing (tgt 0 false) (evidence 0x40000000 false) ≡ hop-ticket 0x40000000 (1 ∷ []) false
+  pub bar-of-services-resource : kind-4 (table 0 14 10 0 0x2) cname resource (tgt 0 false) (evidence 0 false) ≡ hop-ticket 0 (1 ∷ []) false
+  pub bar-of-client : number (kind-4 (table 2 12 8 0x4 0) cname nothing (tgt 0 false) (evidence 0x40000000 false)) ∷ number (kind-4 (table 2 12 8 0 0x2) cname resource (tgt 0 false) (evidence 0 false)) ∷ [] ≡ 13 ∷ 13 ∷ []
+  pub bar-of-both : map (λ bar. number (kind-4 (table 0 bar 8 0x4 0) cname nothing (tgt 0 false) own-evidence)) (12 ∷ 14 ∷ []) ≡ 0 ∷ 13 ∷ []
+  -- R5.8: client, mark and FORWARDABLE are the evidence's, no other flag of it; the TGT's flags and mark do not count
   pub hop-flags : kind-4 classic cname nothing (tgt 0 true) (evidence 0xFFFFFFFF false) ≡ hop-ticket 0x40000000 (1 ∷ []) false
   pub hop-no-flags : kind-4 by-resource (0x40 ∷ 0x02 ∷ 0x00 ∷ 0x00 ∷ []) resource (tgt 0xFFFFFFFF true) (evidence 0xBFFFFFFF false) ≡ hop-ticket 0 (1 ∷ []) false
   pub hop-marked : kind-4 classic cname nothing (tgt 0 false) (evidence 0x40000000 true) ≡ hop-ticket 0x40000000 (1 ∷ []) true
-  pub hop-barred-today : kind-4 (table 2 14 10 0x4 0) cname nothing (tgt 0 false) (evidence 0x40000000 false) ≡ hop-ticket 0x40000000 (1 ∷ []) false
   -- the trail grows behind, up to eight
   pub hop-trail : kind-4 classic cname nothing (tgt 0 false) (hopped (5 ∷ 6 ∷ [])) ≡ hop-ticket 0x40000000 (5 ∷ 6 ∷ 1 ∷ []) false
   pub hop-eighth : kind-4 classic cname nothing (tgt 0 false) (hopped (9 ∷ 8 ∷ 7 ∷ 6 ∷ 5 ∷ 4 ∷ 3 ∷ [])) ≡ hop-ticket 0x40000000 (9 ∷ 8 ∷ 7 ∷ 6 ∷ 5 ∷ 4 ∷ 3 ∷ 1 ∷ []) false
@@ -199,6 +208,7 @@ grant-cases =
       all-3 = refl;
       all-3-barred = refl;
       all-4 = refl;
+      all-4-barred = refl;
       all-4-no-option = refl;
       first-plain = refl;
       first-asked = refl;
@@ -225,10 +235,13 @@ grant-cases =
       no-set = refl;
       no-forwardable = refl;
       no-clean-evidence = refl;
+      bar-of-services = refl;
+      bar-of-services-resource = refl;
+      bar-of-client = refl;
+      bar-of-both = refl;
       hop-flags = refl;
       hop-no-flags = refl;
       hop-marked = refl;
-      hop-barred-today = refl;
       hop-trail = refl;
       hop-eighth = refl;
       hop-ninth = refl;

@@ -17,7 +17,7 @@ use Rattle.definitions.specs.Routes.{hasRoute}
 use Rattle.definitions.specs.Decisions.{isInitial}
 use Rattle.definitions.specs.HeldTickets.{ticketNumber, firstTicket}
 use Rattle.definitions.specs.Descent.{backOf}
-use Rattle.definitions.specs.LawfulDescent.{Entry, entryTicket, entryNumber, firstEntry, stepsBack, trailList, serviceIn, isDelegated, Steps, at-initial, one-back, Along, itself, through, RestsOnTgt, RestsOnEvidence, Rests, Way, WayOf, Lawful}
+use Rattle.definitions.specs.LawfulDescent.{Entry, entryTicket, entryNumber, firstEntry, stepsBack, trailList, serviceIn, isDelegated, Steps, at-initial, one-back, Along, itself, through, RestsOnTgt, RestsOnEvidence, Rests, NeverBarred, Way, WayOf, Lawful}
 use Rattle.definitions.proofs.HeldTickets.{first-is, first-map}
 use Rattle.definitions.proofs.Lists.{map-append, each-snoc}
 
@@ -40,13 +40,13 @@ pub record FitsTgt (m : Entry) (g : Ticket) (c : ℕ) : Type 0 where
   pub its-client : g .client ≡ c
   pub end : m .ticket .window .end ≤ g .window .end
 
--- `shut` tells of a ticket whether no hop may follow it; where the first ticket's client is barred, none may
+-- `shut` tells of a ticket whether no hop may follow it; where the client was barred at the first ticket, none may
 module _ (shut : Ticket → Bool) where
   -- ---- The invariant
   -- the way along the evidence, with what carries it on
   pub record Track (ns : List Entry) (m : Entry) : Type 0 where
     pub way : Way ns m
-    pub shuts : isBarred (accountAt (way .first .table) (m .ticket .client)) ≡ true → shut (m .ticket) ≡ true
+    pub unbarred : shut (m .ticket) ≡ false → NeverBarred (m .ticket .client) (way .passed ++ (m ∷ []))
     pub steps : Steps ns m (suc (m .ticket .hops))
     pub short : m .ticket .hops ≤ trailLimit
 
@@ -91,11 +91,12 @@ module _ (shut : Ticket → Bool) where
       }
 
   -- ---- What a new entry is founded on: the tickets at its back numbers, and how it goes on from them
-  -- evidence, beside the TGT of its service: one client, the trail grown by that service, a route, and no hop that is shut
+  -- evidence, beside the TGT of its service: one client, who is not barred, the trail grown by that service, a route, and no hop that is shut
   pub record FitsEvidence (m : Entry) (g e : Ticket) : Type 0 where
     pub tgt : FitsTgt m g (e .service)
     pub not-initial : isInitial (e .origin) ≡ false
     pub one-client : e .client ≡ m .ticket .client
+    pub not-barred : isBarred (accountAt (m .table) (m .ticket .client)) ≡ false
     pub end : m .ticket .window .end ≤ e .window .end
     pub by-route : hasRoute (accountAt (m .table) (g .client)) (accountAt (m .table) (m .ticket .service)) (m .resource) (g .client) e (m .ticket .service) ≡ true
     pub one-more : m .ticket .hops ≡ suc (e .hops)
@@ -165,7 +166,7 @@ module _ (shut : Ticket → Bool) where
                   clients = λ u i. ap (λ (v : Entry). v .ticket .client) (List·Memᴰ·eq-of-singleton i);
                   not-barred = λ q. true-false q d;
                 };
-            shuts = f .shuts;
+            unbarred = λ q u i. rw (List·Memᴰ·eq-of-singleton i) (not-so (f .shuts) q);
             steps = subst (λ j. Steps ns m (suc j)) (sym (f .no-hops)) (one-back b (r .stands) (r .falls) (r .end) (at-initial (r .is-initial)));
             short = omega (arith, f .no-hops);
           },
@@ -186,8 +187,10 @@ module _ (shut : Ticket → Bool) where
         let f : FitsEvidence m (v .entry .ticket) (u .ticket) = rw (v .is, p .is) (r .fits) in
         let t = track-there u (u .ticket .origin) (f .not-initial) (p .good .track) in
         let w = t .way in
-        let clear : isBarred (accountAt (w .first .table) (m .ticket .client)) ≡ false =
-        subst (λ c. isBarred (accountAt (w .first .table) c) ≡ false) (f .one-client) (not-so (t .shuts) (f .unshut))
+        let us = w .passed ++ (u ∷ []) in
+        let never : NeverBarred (m .ticket .client) (us ++ (m ∷ [])) =
+        each-snoc (λ v. isBarred (accountAt (v .table) (m .ticket .client)) ≡ false) us m
+        (subst (λ c. NeverBarred c us) (f .one-client) (t .unbarred (f .unshut))) (f .not-barred)
         in (
           record {
             evidence = u;
@@ -202,15 +205,15 @@ module _ (shut : Ticket → Bool) where
           record {
             way =
                 record {
-                  passed = w .passed ++ (u ∷ []);
+                  passed = us;
                   first = w .first;
                   along = through o (p .stands) (f .end) (w .along);
                   hops = omega (arith, f .one-more, w .hops, length-append (w .passed) (u ∷ []));
                   trail = f .grown ∙ ap (λ x. x ++ (u .ticket .service ∷ [])) (w .trail) ∙ sym (map-append serviceIn (w .passed) (u ∷ []));
-                  clients = each-snoc (λ v. v .ticket .client ≡ m .ticket .client) (w .passed ++ (u ∷ [])) m (λ v i. w .clients v i ∙ f .one-client) refl;
-                  not-barred = λ q. clear;
+                  clients = each-snoc (λ v. v .ticket .client ≡ m .ticket .client) us m (λ v i. w .clients v i ∙ f .one-client) refl;
+                  not-barred = λ q. never;
                 };
-            shuts = λ q. true-false q clear;
+            unbarred = λ q. never;
             steps = subst (λ i. Steps ns m (suc i)) (sym (f .one-more)) (one-back (ap backOf o) (p .stands) (p .falls) (f .end) (t .steps));
             short = omega (arith, f .one-more, f .few);
           },

@@ -3,9 +3,9 @@
 -- writer (R3.7) too.
 -- Assumes nothing.
 use mathlib.Core.Path.{_≡_, refl}
-use mathlib.Core.Bool.{Bool, true, false, cond}
+use mathlib.Core.Bool.{Bool, true, false, not, _&&_, cond}
 use mathlib.Core.List.{List, [], _∷_, _++_}
-use Prim.Native.Nat.{ℕ, zero, suc, _-_}
+use Prim.Native.Nat.{ℕ, zero, suc, _+_, _-_}
 use lib.ListN.{getD, length, replicate}
 use Rattle.definitions.specs.Errors.{answerNumber}
 use Rattle.definitions.specs.Equality.{sameTicket}
@@ -113,12 +113,13 @@ kind-3 faults =
     (spoilt (fails faults 0) (request-3 nothing (till (fails faults 10)) (tgt (fails faults 3) (fails faults 4) (fails faults 5)) (cond (fails faults 8) ghost tech)))
     (room (fails faults 1))
 
--- kind 4: 60, 52, 41, 35, 33, 32, 18, then 41, 33, 32, 26, 18 of the evidence, then 7, 13, 61, 11, 29
-abbrev kind-4 : List Bool → ℕ
-kind-4 faults =
-    answered (accounts (cond (fails faults 11) 1 0) (cond (fails faults 6) 13 12) (cond (fails faults 12) 0 8) 4 0 36000)
+-- kind 4: 60, 52, 41, 35, 33, 32, 18, then 41, 33, 32, 26, 18 of the evidence, then 7, 13, 61, 11, 29; 13 where the client is barred, or where the
+-- option is missing
+abbrev kind-4 : Bool → List Bool → ℕ
+kind-4 by-bar faults =
+    answered (accounts (cond (fails faults 11) 1 0 + cond (by-bar && fails faults 13) 2 0) (cond (fails faults 6) 13 12) (cond (fails faults 12) 0 8) 4 0 36000)
     (ledger (fails faults 2) (tgt (fails faults 3) (fails faults 4) (fails faults 5)) (fails faults 7) (evidence (fails faults 8) (fails faults 9) (fails faults 10) (fails faults 14)) (fails faults 16))
-    (spoilt (fails faults 0) (request-4 (cond (fails faults 13) nothing cname) nothing (till (fails faults 15)) (tgt (fails faults 3) (fails faults 4) (fails faults 5)) (evidence (fails faults 8) (fails faults 9) (fails faults 10) (fails faults 14)) store))
+    (spoilt (fails faults 0) (request-4 (cond (not by-bar && fails faults 13) nothing cname) nothing (till (fails faults 15)) (tgt (fails faults 3) (fails faults 4) (fails faults 5)) (evidence (fails faults 8) (fails faults 9) (fails faults 10) (fails faults 14)) store))
     (room (fails faults 1))
 
 -- an edit with a number, a name and flags
@@ -130,19 +131,21 @@ pub record Order : Type 0 where
   pub alone-1 : alone kind-1 6 ≡ 60 ∷ 52 ∷ 6 ∷ 18 ∷ 11 ∷ 29 ∷ []
   pub alone-2 : alone kind-2 10 ≡ 60 ∷ 52 ∷ 41 ∷ 35 ∷ 33 ∷ 32 ∷ 18 ∷ 7 ∷ 11 ∷ 29 ∷ []
   pub alone-3 : alone kind-3 12 ≡ 60 ∷ 52 ∷ 41 ∷ 35 ∷ 33 ∷ 32 ∷ 18 ∷ 7 ∷ 6 ∷ 18 ∷ 11 ∷ 29 ∷ []
-  pub alone-4 : alone kind-4 17 ≡ 60 ∷ 52 ∷ 41 ∷ 35 ∷ 33 ∷ 32 ∷ 18 ∷ 41 ∷ 33 ∷ 32 ∷ 26 ∷ 18 ∷ 7 ∷ 13 ∷ 61 ∷ 11 ∷ 29 ∷ []
+  pub alone-4 : alone (kind-4 false) 17 ≡ 60 ∷ 52 ∷ 41 ∷ 35 ∷ 33 ∷ 32 ∷ 18 ∷ 41 ∷ 33 ∷ 32 ∷ 26 ∷ 18 ∷ 7 ∷ 13 ∷ 61 ∷ 11 ∷ 29 ∷ []
   -- each together with the next: the earlier one is the answer
   pub pairs-1 : pairs kind-1 6 ≡ 60 ∷ 52 ∷ 6 ∷ 18 ∷ 11 ∷ []
   pub pairs-2 : pairs kind-2 10 ≡ 60 ∷ 52 ∷ 41 ∷ 35 ∷ 33 ∷ 32 ∷ 18 ∷ 7 ∷ 11 ∷ []
   pub pairs-3 : pairs kind-3 12 ≡ 60 ∷ 52 ∷ 41 ∷ 35 ∷ 33 ∷ 32 ∷ 18 ∷ 7 ∷ 6 ∷ 18 ∷ 11 ∷ []
-  pub pairs-4 : pairs kind-4 17 ≡ 60 ∷ 52 ∷ 41 ∷ 35 ∷ 33 ∷ 32 ∷ 18 ∷ 41 ∷ 33 ∷ 32 ∷ 26 ∷ 18 ∷ 7 ∷ 13 ∷ 61 ∷ 11 ∷ []
+  pub pairs-4 : pairs (kind-4 false) 17 ≡ 60 ∷ 52 ∷ 41 ∷ 35 ∷ 33 ∷ 32 ∷ 18 ∷ 41 ∷ 33 ∷ 32 ∷ 26 ∷ 18 ∷ 7 ∷ 13 ∷ 61 ∷ 11 ∷ []
   -- each together with all behind it
   pub onward-1 : onward kind-1 6 ≡ 60 ∷ 52 ∷ 6 ∷ 18 ∷ 11 ∷ 29 ∷ []
   pub onward-2 : onward kind-2 10 ≡ 60 ∷ 52 ∷ 41 ∷ 35 ∷ 33 ∷ 32 ∷ 18 ∷ 7 ∷ 11 ∷ 29 ∷ []
   pub onward-3 : onward kind-3 12 ≡ 60 ∷ 52 ∷ 41 ∷ 35 ∷ 33 ∷ 32 ∷ 18 ∷ 7 ∷ 6 ∷ 18 ∷ 11 ∷ 29 ∷ []
-  pub onward-4 : onward kind-4 17 ≡ 60 ∷ 52 ∷ 41 ∷ 35 ∷ 33 ∷ 32 ∷ 18 ∷ 41 ∷ 33 ∷ 32 ∷ 26 ∷ 18 ∷ 7 ∷ 13 ∷ 61 ∷ 11 ∷ 29 ∷ []
+  pub onward-4 : onward (kind-4 false) 17 ≡ 60 ∷ 52 ∷ 41 ∷ 35 ∷ 33 ∷ 32 ∷ 18 ∷ 41 ∷ 33 ∷ 32 ∷ 26 ∷ 18 ∷ 7 ∷ 13 ∷ 61 ∷ 11 ∷ 29 ∷ []
+  -- a bar has the place of a missing option, and answers the same
+  pub barred-4 : alone (kind-4 true) 17 ∷ pairs (kind-4 true) 17 ∷ onward (kind-4 true) 17 ∷ [] ≡ alone (kind-4 false) 17 ∷ pairs (kind-4 false) 17 ∷ onward (kind-4 false) 17 ∷ []
   -- and where none fails
-  pub granted : kind-1 [] ∷ kind-2 [] ∷ kind-3 [] ∷ kind-4 [] ∷ [] ≡ 0 ∷ 0 ∷ 0 ∷ 0 ∷ []
+  pub granted : kind-1 [] ∷ kind-2 [] ∷ kind-3 [] ∷ kind-4 false [] ∷ [] ≡ 0 ∷ 0 ∷ 0 ∷ 0 ∷ []
   -- R2.9: flags 16 are 60 before 12 and before 8; the name of another account is 12 before 8; all three are 60
   pub edit-60-12 : edited 1 ghost 16 ≡ 60
   pub edit-60-8 : edited 3 web 16 ≡ 60
@@ -170,6 +173,7 @@ order =
       onward-2 = refl;
       onward-3 = refl;
       onward-4 = refl;
+      barred-4 = refl;
       granted = refl;
       edit-60-12 = refl;
       edit-60-8 = refl;

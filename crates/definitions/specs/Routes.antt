@@ -1,8 +1,9 @@
--- The two routes of kind 4 (R5.7), from Service 1, the TGT's client, to Service 2, which the request names.
+-- What permits a hop of kind 4 (R5.7): no bar of the client, the option, and one of two routes, from Service 1, the TGT's client, to Service 2,
+-- which the request names.
 -- Assumes nothing.
 use Prim.Native.Nat.{ℕ}
 use mathlib.Core.Bool.{Bool, not, _||_, _&&_}
-use Rattle.definitions.specs.Accounts.{inSet}
+use Rattle.definitions.specs.Accounts.{isBarred, inSet}
 use Rattle.definitions.specs.Options.{isForwardable}
 use Rattle.definitions.specs.declared.ticket.Ticket.{Ticket}
 use Rattle.definitions.specs.declared.account.Account.{Account}
@@ -20,6 +21,7 @@ unfoldable pub hasRoute : Account → Account → Bool → ℕ → Ticket → �
 hasRoute service1 service2 resource number1 evidence number2 =
     classicRoute service1 evidence number2 || resourceRoute service2 resource number1 evidence
 
--- R5.7: CNAME-IN-ADDL-TKT stands, and a route holds
-unfoldable pub isPermitted : Account → Account → Bool → Bool → ℕ → Ticket → ℕ → Bool
-isPermitted service1 service2 cname resource number1 evidence number2 = cname && hasRoute service1 service2 resource number1 evidence number2
+-- R5.7: the evidence's client is not barred now, CNAME-IN-ADDL-TKT stands, and a route holds
+unfoldable pub isPermitted : Account → Account → Account → Bool → Bool → ℕ → Ticket → ℕ → Bool
+isPermitted client service1 service2 cname resource number1 evidence number2 =
+    not (isBarred client) && (cname && hasRoute service1 service2 resource number1 evidence number2)

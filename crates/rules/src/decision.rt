@@ -232,6 +232,7 @@ pub fn decide_s4u2proxy(
     }
     let service2 = find_named(words, bytes, name);
     let permitted = is_permitted(
+        client,
         service1,
         service2.account,
         cname,

@@ -1,5 +1,7 @@
-// The two routes of kind 4 (R5.7), from Service 1, the TGT's client, to Service 2, which the request names.
+// What permits a hop of kind 4 (R5.7): no bar of the client, the option, and one of two routes, from Service 1, the TGT's client, to Service 2,
+// which the request names.
 use crate::accounts::in_set;
+use crate::accounts::is_barred;
 use crate::options::is_forwardable;
 use definitions::Account;
 use definitions::Principal;
@@ -46,8 +48,9 @@ fn has_route(
     )
 }
 
-// Whether CNAME-IN-ADDL-TKT stands and a route holds.
+// Whether the evidence's client is not barred, CNAME-IN-ADDL-TKT stands and a route holds.
 pub(crate) fn is_permitted(
+    client: Account,
     service1: Account,
     service2: Account,
     cname: bool,
@@ -56,10 +59,13 @@ pub(crate) fn is_permitted(
     evidence: Ticket,
     number2: Principal,
 ) -> bool
-    ensures { λ r. ⌜ r ≡ isPermitted service1 service2 cname resource number1 evidence number2 ⌝ }
+    ensures { λ r. ⌜ r ≡ isPermitted client service1 service2 cname resource number1 evidence number2 ⌝ }
 {
     both(
-        cname,
-        has_route(service1, service2, resource, number1, evidence, number2),
+        !is_barred(client),
+        both(
+            cname,
+            has_route(service1, service2, resource, number1, evidence, number2),
+        ),
     )
 }

@@ -5,8 +5,8 @@ use super::draft::{record, Draft};
 use super::{edit_of, invented, odd, Call, History};
 use crate::accounts::{Account, BARRED, DISABLED, SERVICE, TRUSTED};
 use crate::decisions::{
-    classic_route, has_ended, is_too_early, resource_route, CNAME_IN_ADDL_TKT, FORWARDABLE,
-    RESOURCE_BASED,
+    classic_route, has_ended, is_forwardable, is_too_early, resource_route, CNAME_IN_ADDL_TKT,
+    FORWARDABLE, RESOURCE_BASED,
 };
 use crate::limits::{ACCOUNT_LIMIT, CLOCK_SKEW, LAST_SECOND, LONGEST_RECORD, TICKET_LIMIT};
 use crate::random::Random;
@@ -308,13 +308,15 @@ impl Generator {
         call
     }
 
-    /// The account with one of its parts changed. A disabled one is mostly enabled.
+    /// The account with one of its parts changed. A disabled one is mostly enabled, and the bar of a
+    /// barred one is often lifted.
     fn changed_account(&mut self, number: Principal, mut account: Account) -> Call {
         match self.random.below(12) {
             _ if account.flags & DISABLED != 0 && !self.random.once_in(4) => {
                 account.flags ^= DISABLED;
             }
-            0 => account.flags ^= DISABLED,
+            _ if account.flags & BARRED != 0 && self.random.once_in(3) => account.flags ^= BARRED,
+            0 => account.flags ^= self.random.pick(&[DISABLED, DISABLED | BARRED]),
             1 | 2 => account.flags ^= BARRED,
             3 | 4 => account.flags ^= TRUSTED,
             5 => account.flags ^= SERVICE,
@@ -530,8 +532,8 @@ impl Generator {
         Draft { kind: 3, tgt, user: self.asked_name(user), ..Draft::default() }
     }
 
-    /// Evidence, half the time with the longest trail that there is; one in four ends before its start,
-    /// where such is held, which takes other words.
+    /// Evidence, mostly without a bar of its client, where such is held, and half the time with the
+    /// longest trail; one in four ends before its start, where such is held, which takes other words.
     fn evidence(&mut self) -> Option<Ticket> {
         if self.odd() {
             return self.any_ticket();
@@ -545,15 +547,27 @@ impl Generator {
             }
         }
         let (now, any_time, disabled) = (self.now, self.odd(), self.odd());
+        let barred = self.random.once_in(6);
         let fits = move |service: &Service, ticket: &Ticket| {
             ticket.origin != Origin::Initial
                 && (any_time || is_valid(ticket, now))
                 && service.table.is_disabled(ticket.client) == disabled
         };
-        let fitting = self.service.held().iter().filter(|ticket| fits(&self.service, ticket));
-        let most = fitting.map(|ticket| ticket.hops).max().unwrap_or(0);
+        // Of a barred client it is such as may have a route but for the bar.
+        let wanted = move |service: &Service, ticket: &Ticket| {
+            fits(service, ticket)
+                && service.table.is_barred(ticket.client) == barred
+                && (!barred || !ticket.barred || is_forwardable(ticket))
+        };
+        self.long_with(wanted).or_else(|| self.long_with(fits))
+    }
+
+    /// A ticket that passes the test, half the time with the longest trail of those that do.
+    fn long_with(&mut self, test: impl Fn(&Service, &Ticket) -> bool) -> Option<Ticket> {
+        let passing = self.service.held().iter().filter(|ticket| test(&self.service, ticket));
+        let most = passing.map(|ticket| ticket.hops).max()?;
         let least = if self.random.once_in(2) { most } else { 0 };
-        self.ticket_with(|service, ticket| fits(service, ticket) && ticket.hops >= least)
+        self.ticket_with(|service, ticket| test(service, ticket) && ticket.hops >= least)
     }
 
     /// A request for a hop; for a TGT of the evidence's service where there is none yet.

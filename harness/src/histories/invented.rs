@@ -169,9 +169,9 @@ pub fn changed(random: &mut Random, service: &Service) -> Box<library::Service> 
 }
 
 /// The same change of every other ticket: its mark, FORWARDABLE, its client or service to one beyond
-/// the limit, start for end, or its tag; some of these twice as often as others.
+/// the limit, start for end, or its tag; some of these more often than others.
 fn change_half(random: &mut Random, words: &mut library::Service, count: usize) {
-    let kind = random.pick(&[0, 0, 1, 2, 2, 3, 4, 4, 5]);
+    let kind = random.pick(&[0, 0, 0, 1, 2, 2, 3, 4, 4, 4, 5]);
     for place in words.ledger[place_at(0)..].chunks_exact_mut(PLACE_SIZE).take(count) {
         match kind {
             _ if random.once_in(2) => {}

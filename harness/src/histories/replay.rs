@@ -133,8 +133,7 @@ impl Pair {
             Call::Edit { .. } => self.edit(&edit_of(call).expect("an edit"), tally)?,
             Call::Request { request, clock, output } => {
                 let outcome = self.request(request, *clock, *output)?;
-                let Self { past, freed, book, .. } = self;
-                let met = Met { past, freed: *freed, fresh: book.is_some() };
+                let met = Met { past: &self.past, freed: self.freed, book: self.book.as_ref() };
                 tally.requested(&self.second, &met, request, *clock, outcome.error);
                 outcome
             }

@@ -3,7 +3,8 @@
 
 use super::draft::presented;
 use super::History;
-use crate::accounts::{Edit, ALL_FLAGS};
+use crate::accounts::{Edit, Table, ALL_FLAGS};
+use crate::book::Book;
 use crate::decisions::{
     classic_route, has_cname_in_addl_tkt, has_ended, is_forwardable, is_too_early, resource_route,
 };
@@ -39,7 +40,11 @@ const EXPECTED: &[(&str, &[&str])] = &[
     ("41 cleared", &["TGT", "TGT, earlier clock", "evidence", "evidence, earlier clock"]),
     ("service", &["7 unknown", "7 disabled", "7 flag 8", "7 Service 1"]),
     ("user", &["6", "18"]),
-    ("last", &["13 option", "13 route", "61", "11", "29 full", "29 no number", "29 both"]),
+    ("13", &["option", "bar", "route"]),
+    ("13 bar, open", &["classic", "resource", "both", "neither"]),
+    ("13 bar, beside", &["barred since", "61", "delegated evidence", "Service 1", "Service 2"]),
+    ("barred client", &["18", "7", "13 option"]),
+    ("last", &["61", "11", "29 full", "29 no number", "29 both"]),
     ("initial", &["FORWARDABLE", "mark", "neither"]),
     ("direct", &["FORWARDABLE", "mark", "neither"]),
     ("S4U2self", &["FORWARDABLE", "mark", "neither"]),
@@ -47,6 +52,7 @@ const EXPECTED: &[(&str, &[&str])] = &[
     ("delegated", &["FORWARDABLE", "neither", "both, from other words"]),
     ("route", &["classic", "resource", "both"]),
     ("eighth hop", &["classic", "resource", "both"]),
+    ("hop granted", &["bar lifted", "Service 1 barred", "Service 2 barred", "delegated evidence"]),
     ("trail", &["1", "2", "3", "4", "5", "6", "7", "8"]),
     ("end by", &["lifetime", "last second", "TGT", "evidence", "till"]),
     ("number", &["below 512", "512 and above"]),
@@ -84,8 +90,8 @@ pub(super) struct Met<'a> {
     pub past: &'a Past,
     /// The places below this one were held when a clearing took some out.
     pub freed: usize,
-    /// Whether the history began with a fresh service.
-    pub fresh: bool,
+    /// The notes, where the history began with a fresh service.
+    pub book: Option<&'a Book>,
 }
 
 /// The counts.
@@ -210,7 +216,7 @@ impl Tally {
                 self.add("unreadable 60", if error == 60 { unreadable(bytes) } else { NEVER })
             }
             Ok(request) if error == 0 => {
-                self.grants(service, &request);
+                self.grants(service, met, &request);
                 self.count_place(service, met);
             }
             Ok(request) => {
@@ -225,12 +231,13 @@ impl Tally {
                 if let Some(name) = refusal.cleared(met.past, group, error) {
                     self.add("41 cleared", name);
                 }
+                self.count_bar(&refusal, met, group, name);
             }
         }
     }
 
     /// A request was granted: its ticket is the ledger's last.
-    fn grants(&mut self, service: &Service, request: &Request) {
+    fn grants(&mut self, service: &Service, met: &Met, request: &Request) {
         self.granted += 1;
         let ticket = service.ledger.last().expect("a grant is in the ledger");
         let (group, name) = issued(ticket);
@@ -243,14 +250,38 @@ impl Tally {
         if let Origin::S4U2self { .. } = ticket.origin {
             self.add("S4U2self by", s4u2self_by(service, ticket.service));
         }
-        if let Kind::S4U2proxy { tgt, evidence, .. } = &request.kind {
-            let trails = [NEVER, "1", "2", "3", "4", "5", "6", "7", "8"];
-            self.add("trail", trails.get(usize::from(ticket.hops)).unwrap_or(&NEVER));
-            let route = route(service, request, tgt.client, ticket.service, evidence);
-            self.add("route", route);
-            if usize::from(ticket.hops) == TRAIL_LIMIT {
-                self.add("eighth hop", route);
+        if let Some(hop) = Hop::of(&service.table, request) {
+            self.count_hop(&hop, met, ticket.hops);
+        }
+    }
+
+    /// A hop was granted, with a trail of so many accounts.
+    fn count_hop(&mut self, hop: &Hop, met: &Met, hops: u8) {
+        let trails = [NEVER, "1", "2", "3", "4", "5", "6", "7", "8"];
+        self.add("trail", trails.get(usize::from(hops)).unwrap_or(&NEVER));
+        let route = hop.open_route().unwrap_or(NEVER);
+        self.add("route", route);
+        if usize::from(hops) == TRAIL_LIMIT {
+            self.add("eighth hop", route);
+        }
+        hop.granted(met.book).for_each(|name| self.add("hop granted", name));
+    }
+
+    /// R5.7: counts a refusal of this group and name, where the evidence's client is barred.
+    fn count_bar(&mut self, refusal: &Refusal, met: &Met, group: &str, name: &str) {
+        if !refusal.is_client_barred() {
+            return;
+        }
+        match (group, name) {
+            ("evidence", "18") => self.add("barred client", "18"),
+            ("service", _) => self.add("barred client", "7"),
+            ("13", "option") => self.add("barred client", "13 option"),
+            ("13", "bar") => {
+                let hop = refusal.hop().expect("a barred client's hop");
+                self.add("13 bar, open", hop.open_route().unwrap_or("neither"));
+                hop.barred(met.book).for_each(|name| self.add("13 bar, beside", name));
             }
+            _ => {}
         }
     }
 
@@ -261,7 +292,7 @@ impl Tally {
         let high = usize::from(number) >= TICKET_LIMIT;
         let held = service.ledger[..place].iter().any(|ticket| ticket.number == number);
         self.add("place", if place < met.freed { "set free" } else { "new" });
-        match (met.fresh, held) {
+        match (met.book.is_some(), held) {
             (true, true) => self.add("number", NEVER),
             (true, _) => self.add("number", if high { "512 and above" } else { "below 512" }),
             (_, true) => self.add("other words", "held already"),
@@ -358,19 +389,23 @@ fn unreadable(request: &[u8]) -> &'static str {
     }
 }
 
+/// The names of the conditions that hold.
+fn holding<const N: usize>(names: [(bool, &'static str); N]) -> impl Iterator<Item = &'static str> {
+    names.into_iter().filter_map(|(holds, name)| holds.then_some(name))
+}
+
 /// The edges at which the clock of a clearing stood: those of the tickets held before it, and of the
 /// clock itself.
 fn cleared_at(held: &[Ticket], clock: u32, some: bool) -> impl Iterator<Item = &'static str> {
     let ends = || held.iter().map(|ticket| ticket.end);
-    let edges = [
+    holding([
         (ends().any(|end| end.checked_sub(1) == Some(clock)), "end - 1"),
         (ends().any(|end| end == clock), "end"),
         (ends().any(|end| end.checked_add(1) == Some(clock)), "end + 1"),
         (clock == 0, "0"),
         (clock == 0 && some, "0, some"),
         (clock == LAST_SECOND, "last second"),
-    ];
-    edges.into_iter().filter_map(|(stood, name)| stood.then_some(name))
+    ])
 }
 
 /// R5.2: what is counted of a ticket that was presented at this clock reading, by the answer.
@@ -378,15 +413,14 @@ fn early(ticket: &Ticket, clock: u32, error: u32) -> impl Iterator<Item = &'stat
     let ahead = ticket.start.saturating_sub(clock);
     let granted = error == 0 && ahead > 0;
     let past_32_bits = clock.checked_add(CLOCK_SKEW).is_none();
-    let names = [
+    holding([
         (granted, "granted"),
         (granted && ahead == CLOCK_SKEW, "granted at the first second"),
         (granted && past_32_bits, "granted, sum past 32 bits"),
         (error == 33 && ahead == CLOCK_SKEW + 1, "33 a second before it"),
         (error == 33 && has_ended(ticket, clock), "33, ended too"),
         (error == 32 && ahead > 0, "32"),
-    ];
-    names.into_iter().filter_map(|(counted, name)| counted.then_some(name))
+    ])
 }
 
 /// R5.10: the next number of a service from other words.
@@ -444,23 +478,83 @@ fn s4u2self_by(service: &Service, service_1: Principal) -> &'static str {
     }
 }
 
-/// R5.7: which routes held for a hop.
-fn route(
-    service: &Service,
-    request: &Request,
+/// A request of kind 4 whose service is found, and the table that it met.
+struct Hop<'a> {
+    table: &'a Table,
     service_1: Principal,
     service_2: Principal,
-    evidence: &Ticket,
-) -> &'static str {
-    let table = &service.table;
-    let classic = classic_route(table, service_1, service_2, evidence);
-    let resource = resource_route(table, service_1, service_2, request.pac_options, evidence);
-    match (classic, resource) {
-        (true, true) => "both",
-        (true, false) => "classic",
-        (false, true) => "resource",
-        (false, false) => NEVER,
+    pac_options: u32,
+    evidence: &'a Ticket,
+}
+
+impl<'a> Hop<'a> {
+    /// The hop that a request asks for.
+    fn of(table: &'a Table, request: &'a Request) -> Option<Hop<'a>> {
+        let Kind::S4U2proxy { tgt, evidence, service } = &request.kind else {
+            return None;
+        };
+        let (service_1, service_2) = (tgt.client, table.find_name(service)?);
+        Some(Hop { table, service_1, service_2, pac_options: request.pac_options, evidence })
     }
+
+    /// R5.7: which routes are open, the bar aside.
+    fn open_route(&self) -> Option<&'static str> {
+        let Hop { table, service_1, service_2, pac_options, evidence } = *self;
+        let classic = classic_route(table, service_1, service_2, evidence);
+        let resource = resource_route(table, service_1, service_2, pac_options, evidence);
+        match (classic, resource) {
+            (true, true) => Some("both"),
+            (true, false) => Some("classic"),
+            (false, true) => Some("resource"),
+            (false, false) => None,
+        }
+    }
+
+    /// Whether the evidence is the ticket of an earlier hop.
+    fn is_on_delegated(&self) -> bool {
+        matches!(self.evidence.origin, Origin::Delegated { .. })
+    }
+
+    /// What is counted of a grant. None is for a barred client (R5.7), and the bar of another account
+    /// does not matter (R5.8).
+    fn granted(&self, book: Option<&Book>) -> impl Iterator<Item = &'static str> {
+        let Hop { table, service_1, service_2, evidence, .. } = *self;
+        let other_barred = |service| service != evidence.client && table.is_barred(service);
+        holding([
+            (table.is_barred(evidence.client), NEVER),
+            (book.is_some_and(|book| was_barred_since(book, evidence)), "bar lifted"),
+            (other_barred(service_1), "Service 1 barred"),
+            (other_barred(service_2), "Service 2 barred"),
+            (self.is_on_delegated(), "delegated evidence"),
+        ])
+    }
+
+    /// What is counted of a refusal by the bar: that the client was not barred yet when the evidence was
+    /// granted, that 61 would follow, what the evidence is, and who the client is besides.
+    fn barred(&self, book: Option<&Book>) -> impl Iterator<Item = &'static str> {
+        let Hop { service_1, service_2, evidence, .. } = *self;
+        let full = usize::from(evidence.hops) == TRAIL_LIMIT;
+        holding([
+            (book.is_some_and(|book| was_unbarred_at(book, evidence)), "barred since"),
+            (full && self.open_route().is_some(), "61"),
+            (self.is_on_delegated(), "delegated evidence"),
+            (evidence.client == service_1, "Service 1"),
+            (evidence.client == service_2, "Service 2"),
+        ])
+    }
+}
+
+/// Whether a ticket's client was not barred when it was granted, by its note.
+fn was_unbarred_at(book: &Book, ticket: &Ticket) -> bool {
+    let mut notes = book.notes.iter();
+    let note = notes.find(|note| note.ticket.number == ticket.number);
+    note.is_some_and(|note| !note.table.is_barred(ticket.client))
+}
+
+/// Whether a ticket's client was barred when a later one was granted, by the notes that stand.
+fn was_barred_since(book: &Book, ticket: &Ticket) -> bool {
+    let mut later = book.notes.iter().rev().take_while(|note| note.ticket.number > ticket.number);
+    later.any(|note| note.table.is_barred(ticket.client))
 }
 
 /// A refused request that reads, and the service that refused it.
@@ -480,15 +574,35 @@ impl Refusal<'_> {
             18 => self.disabled(),
             26 => self.other_service(),
             7 => ("service", self.no_service()),
-            13 if !has_cname_in_addl_tkt(self.request) => ("last", "13 option"),
+            13 => ("13", self.not_permitted()),
             52 => ("output", "52"),
             35 => ("TGT", "35 not initial"),
             6 => ("user", "6"),
-            13 => ("last", "13 route"),
             61 => ("last", "61"),
             11 => ("last", "11"),
             29 => ("last", self.no_room()),
             _ => ("last", NEVER),
+        }
+    }
+
+    /// The hop that was asked for.
+    fn hop(&self) -> Option<Hop<'_>> {
+        Hop::of(&self.service.table, self.request)
+    }
+
+    /// Whether it presents evidence of a client who is barred.
+    fn is_client_barred(&self) -> bool {
+        let (_, evidence) = presented(self.request);
+        evidence.is_some_and(|evidence| self.service.table.is_barred(evidence.client))
+    }
+
+    /// R6.6: why a hop is not permitted; the first of the causes.
+    fn not_permitted(&self) -> &'static str {
+        match self.hop() {
+            Some(_) if !has_cname_in_addl_tkt(self.request) => "option",
+            Some(_) if self.is_client_barred() => "bar",
+            Some(hop) if hop.open_route().is_none() => "route",
+            _ => NEVER,
         }
     }
 
@@ -533,8 +647,7 @@ impl Refusal<'_> {
         let late = error == 32 && tickets.any(|ticket| ticket.end == self.clock);
         let zero = self.clock == 0;
         let last = self.clock == LAST_SECOND;
-        let edges = [(late, "end"), (zero, "0"), (last, "last second")];
-        edges.into_iter().filter_map(|(stood, name)| stood.then_some(name))
+        holding([(late, "end"), (zero, "0"), (last, "last second")])
     }
 
     /// R2.4: the ticket for which a refusal of this group was given, where it names a number beyond

@@ -3,7 +3,7 @@
 use crate::scenes::{self, other_client, other_number, Scene, END, FIRST, NOW, UNKNOWN};
 use crate::sides::{make, Call, Changes, Output, Side};
 use crate::stage::{Names, Pair, Size};
-use harness::accounts::{Edit, DISABLED};
+use harness::accounts::{Edit, BARRED, DISABLED};
 use harness::limits::{ACCOUNT_LIMIT, LONGEST_RECORD, TICKET_LIMIT};
 use harness::samples::{counted, w1, w3_with, TICKET_0, TICKET_1, TICKET_2};
 use harness::words;
@@ -189,6 +189,7 @@ fn of_end(size: Size) -> Vec<Case> {
     let brim = Size { tickets: TICKET_LIMIT, ..size };
     vec![
         refused(13, "kind 4, no route", scenes::no_route(size).call()),
+        refused(13, "kind 4, client barred", scenes::classic(size).flags(0, BARRED).call()),
         refused(61, "kind 4, ninth hop", scenes::nine_steps(size).call()),
         refused(11, "kind 1, till now", scenes::initial(size).till(NOW).call()),
         refused(11, "kind 4, till now", scenes::classic(size).till(NOW).call()),

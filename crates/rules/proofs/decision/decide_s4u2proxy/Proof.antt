@@ -36,7 +36,7 @@ returns-2 c =
     let n = named (tableOf (now (a .words))) (partOf (now (a .bytes)) (a .name)) in
     let z = andThen (judge (tgtChecks (a .moment .clock) g)) (judge (evidenceChecks (a .moment .clock) e (a .tgt .client))) in
     c .finish-s4u2proxy .ensures ∙ past-accepted (t .result) z _ (simp (t .ensures, c .before .before .before .before .before .before .check-evidence .ensures, c .before .before .before .before .before .before .before .check-tgt .ensures, c .before .before .before .before .before .before .before .before .account-at2 .ensures, c .before .before .before .before .before .before .before .before .before .before .account-at .ensures)) (sym (y .ensures) ∙ not-false (y .result) (c .before .before .before .if1 .left))
-    ∙ simp (c .before .is-permitted .ensures, c .before .before .find-named .ensures, c .before .before .before .before .before .before .before .before .before .before .account-at .ensures) (sym (s4u2proxy-staged (a .moment) (a .cname) (a .resource) (a .till) g e n))
+    ∙ simp (c .before .is-permitted .ensures, c .before .before .find-named .ensures, c .before .before .before .before .before .before .before .before .account-at2 .ensures, c .before .before .before .before .before .before .before .before .before .before .account-at .ensures) (sym (s4u2proxy-staged (a .moment) (a .cname) (a .resource) (a .till) g e n))
 
 pub decide-s4u2proxy-spec : {M : Type 1} → statement M
 decide-s4u2proxy-spec =
