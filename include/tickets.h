@@ -93,6 +93,13 @@ void tickets_fresh(uint64_t *accounts, uint64_t *ledger);
 uint32_t tickets_edit(uint64_t *accounts, uint32_t number, const uint8_t *name, size_t name_len, uint32_t flags, uint64_t send,
                       uint64_t receive, uint32_t lifetime);
 
+/* The number, 0 to 63, of the account that the `name_len` bytes at `name` stand for, or TICKETS_NO_ACCOUNT where no account's name matches (R2.11). A
+ * name matches where its length is the same and each byte is, with ASCII letter case ignored (R2.6). Any bytes may be asked for: no account has a name
+ * of 0 bytes or of more than 24, and a zero byte is a byte of the name. If several accounts match, which no calls bring about, it is the lowest. A
+ * disabled account is found too. The accounts are only read. */
+enum { TICKETS_NO_ACCOUNT = 64 };
+uint32_t tickets_find_name(const uint64_t *accounts, const uint8_t *name, size_t name_len);
+
 /* Answers the request of `request_len` bytes at `request` (R4), at the clock reading `clock`, in seconds. For an initial
  * ticket (kind 1) the caller has checked the user's password before (R1.1). Whatever it answers, a request leaves the accounts' words as they
  * are; they are lent to be written all the same, as those of the ledger are.
@@ -158,6 +165,11 @@ static inline uint32_t tickets_service_edit(tickets_service *service, uint32_t n
     return tickets_edit(service->accounts, number, name, name_len, flags, send, receive, lifetime);
 }
 
+static inline uint32_t tickets_service_find_name(const tickets_service *service, const uint8_t *name, size_t name_len)
+{
+    return tickets_find_name(service->accounts, name, name_len);
+}
+
 static inline tickets_answer tickets_service_request(tickets_service *service, const uint8_t *request, size_t request_len, uint32_t clock,
                                                      uint8_t *output, size_t output_len)
 {
@@ -178,6 +190,12 @@ static inline uint64_t tickets_service_day_total(const tickets_service *service)
 {
     return tickets_day_total(service->ledger);
 }
+
+/* ---- Names, eight bytes at a time (R2.12). */
+
+/* 1 where all eight pairs of bytes of two words match, else 0. Two bytes match where they are equal, or where they are ASCII letters that differ in
+ * 0x20 alone: `A` and `a` do, 0x40 and 0x60 do not. Byte i of a word is the one at the bits 8i to 8i + 7. */
+uint32_t tickets_words_match(uint64_t a, uint64_t b);
 
 /* ---- The record layer's readers and writer (R3, R4). */
 

@@ -1,4 +1,4 @@
-//! Accounts, their names, their table and its edits: R2.1 to R2.10.
+//! Accounts, their names, their table and its edits, and words of names: R2.1 to R2.12.
 
 use crate::limits::{ACCOUNT_LIMIT, NAME_LIMIT};
 use crate::record::{Error, Principal};
@@ -88,6 +88,12 @@ impl Edit<'_> {
 /// R2.5: whether a good name may have the byte.
 fn is_good_byte(byte: &u8) -> bool {
     (0x21..=0x7E).contains(byte) && *byte != 0x40
+}
+
+/// R2.12: whether two words match: their bytes do at each of the eight places.
+pub fn words_match(a: u64, b: u64) -> bool {
+    let mut pairs = a.to_le_bytes().into_iter().zip(b.to_le_bytes());
+    pairs.all(|(one, other)| one.eq_ignore_ascii_case(&other))
 }
 
 /// R2.3: whether a set has an account; one that is no account's number is in no set.
@@ -297,6 +303,34 @@ mod tests {
         assert_eq!(table.find_name(b"\xC3\x89`"), Some(6));
         assert_eq!(table.find_name(b"\xE3\x89`"), None);
         assert_eq!(table.find_name(b"\xC3\x89@"), None);
+    }
+
+    #[test]
+    fn r11_8_words_match_by_their_letters_at_each_of_the_eight_places() {
+        assert!(words_match(0x2000_0000_0062_6557, 0x2000_0000_0042_6577));
+        for (one, other, matching) in [
+            (0x41, 0x61, true),
+            (0x5A, 0x7A, true),
+            (0x40, 0x60, false),
+            (0x5B, 0x7B, false),
+            (0xC1, 0xE1, false),
+            (0x00, 0x20, false),
+        ] {
+            for place in 0..8 {
+                let [a, b] = [one, other].map(|byte: u64| byte << (8 * place));
+                assert_eq!(words_match(a, b), matching, "{a:#x} and {b:#x}");
+                assert_eq!(words_match(b, a), matching, "{b:#x} and {a:#x}");
+            }
+        }
+    }
+
+    #[test]
+    fn r2_12_all_pairs_of_bytes_at_one_place() {
+        for (one, other) in (0..=255).flat_map(|one| (0..=255).map(move |other| (one, other))) {
+            let [a, b] = [one, other].map(|byte: u8| 0x6120_FF41_0000_7F7A | u64::from(byte) << 24);
+            let letters = one ^ other == 0x20 && (0x41..=0x5A).contains(&one.min(other));
+            assert_eq!(words_match(a, b), one == other || letters, "{one:#x} and {other:#x}");
+        }
     }
 
     #[test]

@@ -1,6 +1,7 @@
 //! The calls of include/tickets.h, answered by the second implementation.
 
-use crate::accounts::Edit;
+use crate::accounts::{self, Edit};
+use crate::limits::ACCOUNT_LIMIT;
 use crate::record::{read_request as read, read_ticket, write_ticket, Error, Kind, Request};
 use crate::service::Service;
 
@@ -39,6 +40,19 @@ pub fn rewrite(record: &[u8], output: &mut [u8]) -> Answer {
 /// `tickets_edit`.
 pub fn edit(service: &mut Service, edit: &Edit) -> u32 {
     Answer::of(service.edit(edit).map(|()| 0)).error
+}
+
+/// What `tickets_find_name` answers where no account's name matches.
+pub const NO_ACCOUNT: u32 = ACCOUNT_LIMIT as u32;
+
+/// `tickets_find_name`.
+pub fn find_name(service: &Service, name: &[u8]) -> u32 {
+    service.table.find_name(name).map_or(NO_ACCOUNT, u32::from)
+}
+
+/// `tickets_words_match`.
+pub fn words_match(a: u64, b: u64) -> u32 {
+    accounts::words_match(a, b).into()
 }
 
 /// `tickets_request`.
@@ -99,5 +113,46 @@ pub fn read_request(request: &[u8], fields: &mut RequestFields) -> u32 {
             0
         }
         Err(error) => error.number().into(),
+    }
+}
+
+#[cfg(test)]
+mod tests {
+    use super::*;
+    use crate::fixtures::Day;
+
+    #[test]
+    fn r11_8_names_found() {
+        let mut day = Day::morning();
+        let found = |day: &Day, names: &[&[u8]]| -> Vec<u32> {
+            names.iter().map(|name| find_name(&day.service, name)).collect()
+        };
+        assert_eq!(found(&day, &[b"tech", b"web", b"store", b"WEB", b"wEb"]), [0, 1, 2, 1, 1]);
+        assert_eq!(found(&day, &[b"we", b"webs", b"web\0", b"\0web", b""]), [NO_ACCOUNT; 5]);
+        assert_eq!(found(&day, &[b"wdb", b"xeb", b"wea"]), [NO_ACCOUNT; 3]);
+        day.set_flags(1, 13);
+        assert_eq!(found(&day, &[b"web"]), [1]);
+    }
+
+    #[test]
+    fn r11_8_names_that_differ_in_the_last_byte_alone() {
+        for length in [1, 7, 8, 9, 24] {
+            let mut day = Day::on(Service::fresh());
+            let name = |last: char| "x".repeat(length - 1) + &last.to_string();
+            for (number, last) in (0..).zip('a'..='z') {
+                day.set(number, &name(last), 0, 0, 0);
+            }
+            for (number, last) in (0..).zip('a'..='z') {
+                let name = name(last);
+                assert_eq!(find_name(&day.service, name.as_bytes()), number);
+                assert_eq!(find_name(&day.service, name.to_uppercase().as_bytes()), number);
+            }
+            assert_eq!(find_name(&day.service, name('1').as_bytes()), NO_ACCOUNT);
+        }
+    }
+
+    #[test]
+    fn r2_12_words_are_answered_by_1_and_0() {
+        assert_eq!([words_match(0x41, 0x61), words_match(0x40, 0x60)], [1, 0]);
     }
 }

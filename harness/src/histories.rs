@@ -1,7 +1,9 @@
-//! Histories: lists of calls (R8.1), with the words that the first of them meets. They are values, so
-//! that they can be made from a seed, replayed on both sides, shortened and printed.
+//! Histories: lists of calls (R8.1), with the words that the first of them meets. Among the calls are
+//! finds (R2.11), which change nothing, and of which the plain book is not told. Histories are values,
+//! so that they can be made from a seed, replayed on both sides, shortened and printed.
 
 mod draft;
+mod finds;
 mod generator;
 mod invented;
 pub mod odd;
@@ -25,6 +27,8 @@ pub use tally::Tally;
 pub enum Call {
     /// An edit of an account.
     Edit { number: u32, name: Vec<u8>, flags: u32, send: u64, receive: u64, lifetime: u32 },
+    /// A find of a name.
+    Find { name: Vec<u8> },
     /// A request, the clock reading, and the output's length.
     Request { request: Vec<u8>, clock: u32, output: usize },
     /// A clearing at a clock reading.
@@ -73,6 +77,7 @@ impl fmt::Display for Call {
                 write!(f, "edit {number} \"{}\" flags {flags}", name.escape_ascii())?;
                 write!(f, " send {send:#x} receive {receive:#x} lifetime {lifetime}")
             }
+            Call::Find { name } => write!(f, "find \"{}\"", name.escape_ascii()),
             Call::Request { request, clock, output } => {
                 write!(f, "request at {clock}, output of {output}: {}", Hex(request))?;
                 match read_request(request) {

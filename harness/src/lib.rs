@@ -13,6 +13,7 @@ pub mod histories;
 #[cfg(feature = "library")]
 pub mod library;
 pub mod limits;
+pub mod matcher;
 pub mod past;
 pub mod random;
 pub mod record;

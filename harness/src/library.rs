@@ -19,6 +19,8 @@ extern "C" {
         lifetime: u32,
     ) -> u32;
 
+    fn tickets_find_name(accounts: *const u64, name: *const u8, name_len: usize) -> u32;
+
     fn tickets_request(
         accounts: *mut u64,
         ledger: *mut u64,
@@ -34,6 +36,8 @@ extern "C" {
     fn tickets_descent(ledger: *const u64, number: u32) -> Answer;
 
     fn tickets_day_total(ledger: *const u64) -> u64;
+
+    fn tickets_words_match(a: u64, b: u64) -> u32;
 
     fn tickets_rewrite(
         record: *const u8,
@@ -58,6 +62,13 @@ pub fn edit(accounts: &mut AccountWords, edit: &Edit) -> u32 {
     // SAFETY: the accounts have as many words as the call takes, and the name is a slice, valid for
     // its length, which the accounts do not overlap because they are borrowed mutably.
     unsafe { tickets_edit(words, number, name.as_ptr(), length, flags, send, receive, lifetime) }
+}
+
+/// `tickets_find_name`.
+pub fn find_name(accounts: &AccountWords, name: &[u8]) -> u32 {
+    // SAFETY: the accounts have as many words as the call reads, and the name is a slice, valid for
+    // its length.
+    unsafe { tickets_find_name(accounts.as_ptr(), name.as_ptr(), name.len()) }
 }
 
 /// `tickets_request`.
@@ -101,6 +112,12 @@ pub fn day_total(ledger: &LedgerWords) -> u64 {
     unsafe { tickets_day_total(ledger.as_ptr()) }
 }
 
+/// `tickets_words_match`.
+pub fn words_match(a: u64, b: u64) -> u32 {
+    // SAFETY: the call is given no memory.
+    unsafe { tickets_words_match(a, b) }
+}
+
 /// The memory of one service, as `tickets_service` has it.
 #[derive(Clone, PartialEq, Eq)]
 #[repr(C)]
@@ -132,6 +149,11 @@ impl Service {
     /// `tickets_service_edit`.
     pub fn edit(&mut self, given: &Edit) -> u32 {
         edit(&mut self.accounts, given)
+    }
+
+    /// `tickets_service_find_name`.
+    pub fn find_name(&self, name: &[u8]) -> u32 {
+        find_name(&self.accounts, name)
     }
 
     /// `tickets_service_request`.

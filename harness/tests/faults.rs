@@ -1,8 +1,9 @@
-//! Buffers that end, or begin, right at memory that may not be touched; empty buffers; very long
-//! ones. A call that reads or writes outside what it is given ends the test program.
+//! Buffers that end, or begin, right at memory that may not be touched; memory that may only be read;
+//! empty buffers; very long ones. A call that reads or writes outside what it is given, or writes where
+//! it may not, ends the test program.
 
 use harness::accounts::Edit;
-use harness::calls::{Answer, RequestFields};
+use harness::calls::{Answer, RequestFields, NO_ACCOUNT};
 use harness::histories::{edit_of, generate, odd, Call};
 use harness::library;
 use harness::limits::{
@@ -25,8 +26,12 @@ const HISTORIES: u64 = 100;
 /// A page of memory on x86-64 Linux, and the values of its mmap.h.
 const PAGE: usize = 4096;
 const PROT_NONE: c_int = 0;
+const PROT_READ: c_int = 1;
 const PROT_READ_WRITE: c_int = 3;
 const MAP_PRIVATE_ANONYMOUS: c_int = 0x22;
+
+/// The last account.
+const LAST_ACCOUNT: u32 = ACCOUNT_LIMIT as u32 - 1;
 
 /// Lengths of outputs that are too short, just long enough, and longer.
 const OUTPUTS: [usize; 6] = [0, 1, LONGEST_RECORD - 1, LONGEST_RECORD, LONGEST_RECORD + 1, 64];
@@ -61,10 +66,16 @@ impl Fenced {
         // SAFETY: a mapping of its own, at a place that the system chooses.
         let base = unsafe { mmap(ptr::null_mut(), all, PROT_NONE, MAP_PRIVATE_ANONYMOUS, -1, 0) };
         assert_ne!(base.addr(), usize::MAX, "mmap");
-        // SAFETY: the pages between the first and the last are part of this mapping.
-        let opened = unsafe { mprotect(base.byte_add(PAGE), length, PROT_READ_WRITE) };
-        assert_eq!(opened, 0, "mprotect");
-        Self { base: base.cast(), length }
+        let fenced = Self { base: base.cast(), length };
+        fenced.allow(PROT_READ_WRITE);
+        fenced
+    }
+
+    /// Sets what may be done to the pages between the first and the last.
+    fn allow(&self, prot: c_int) {
+        // SAFETY: these pages are part of the mapping of this value.
+        let set = unsafe { mprotect(self.base.add(PAGE).cast(), self.length, prot) };
+        assert_eq!(set, 0, "mprotect");
     }
 
     /// The last bytes before the closed page, or the first ones after the other.
@@ -150,6 +161,15 @@ impl FencedCalls {
         library::edit(self.accounts.words(self.side), &Edit { name, ..*edit })
     }
 
+    /// `tickets_find_name`, with its name at the fence, and accounts that may only be read.
+    fn find_name(&mut self, name: &[u8]) -> u32 {
+        let name = self.input.copy(self.side, name);
+        self.accounts.allow(PROT_READ);
+        let found = library::find_name(self.accounts.words(self.side), name);
+        self.accounts.allow(PROT_READ_WRITE);
+        found
+    }
+
     /// `tickets_request`, with all its buffers at fences.
     fn request(&mut self, request: &[u8], clock: u32, output: &mut [u8]) -> Answer {
         let given = self.input.copy(self.side, request);
@@ -189,12 +209,24 @@ fn a_touch_of_the_fence() {
     println!("{}", unsafe { past.read_volatile() });
 }
 
+/// Writes to memory that may only be read.
+#[test]
+#[ignore = "it ends the program, as the next test expects"]
+fn a_write_where_reading_alone_is_allowed() {
+    let mut fenced = Fenced::new(1);
+    fenced.allow(PROT_READ);
+    let byte: *mut u8 = fenced.at(Side::End, 1).as_mut_ptr();
+    // SAFETY: none: the page has to end the program here.
+    unsafe { byte.write_volatile(1) };
+}
+
 #[test]
 fn a_fence_ends_the_program_that_touches_it() {
     let program = env::current_exe().expect("the test program");
-    let mut run = Command::new(program);
-    let run = run.args(["--ignored", "--exact", "a_touch_of_the_fence"]).output();
-    assert_eq!(run.expect("the test program runs").status.signal(), Some(SIGSEGV));
+    for touch in ["a_touch_of_the_fence", "a_write_where_reading_alone_is_allowed"] {
+        let run = Command::new(&program).args(["--ignored", "--exact", touch]).output();
+        assert_eq!(run.expect("the test program runs").status.signal(), Some(SIGSEGV), "{touch}");
+    }
 }
 
 #[test]
@@ -227,6 +259,7 @@ fn make_both(plain: &mut library::Service, fenced: &mut FencedCalls, call: &Call
             let edit = edit_of(call).expect("an edit");
             assert_eq!(fenced.edit(&edit), plain.edit(&edit), "{call}");
         }
+        Call::Find { name } => assert_eq!(fenced.find_name(name), plain.find_name(name), "{call}"),
         Call::Request { request, clock, output } => {
             let mut one = vec![0xEE; *output];
             let mut other = one.clone();
@@ -344,11 +377,43 @@ fn names_of_all_lengths_at_fences() {
         for length in 0..=300 {
             fenced.make_fresh();
             let name = &vec![b'n'; length];
-            let number = ACCOUNT_LIMIT as u32 - 1;
+            let number = LAST_ACCOUNT;
             let edit = Edit { number, name, flags: 8, send: 1, receive: 2, lifetime: 3 };
             let expected = if (1..=NAME_LIMIT).contains(&length) { 0 } else { 60 };
             assert_eq!(fenced.edit(&edit), expected, "a name of {length} bytes");
             assert_eq!(fenced.edit(&edit), expected, "the same name of {length} bytes again");
+        }
+    }
+}
+
+/// Lengths of names that are looked for: around those of a word and of the longest name.
+const LENGTHS: [usize; 8] = [0, 1, 7, 8, 9, NAME_LIMIT, NAME_LIMIT + 1, 255];
+
+/// Sets an account to a name of this length, if a name has it, and looks for names of this length, of
+/// others, and of one that has the same low byte.
+fn find_at_fences(fenced: &mut FencedCalls, number: u32, length: usize) {
+    fenced.make_fresh();
+    let name = &vec![b'n'; length];
+    let edit = Edit { number, name, flags: 8, send: 1, receive: 2, lifetime: 3 };
+    let own = if fenced.edit(&edit) == 0 { number } else { NO_ACCOUNT };
+    let before = fenced.words();
+    for other in LENGTHS.into_iter().chain([length, 256 + length]) {
+        let found = if other == length { own } else { NO_ACCOUNT };
+        for byte in [b'n', b'N'] {
+            let name = vec![byte; other];
+            assert_eq!(fenced.find_name(&name), found, "{other} bytes, a name of {length}");
+        }
+    }
+    assert!(fenced.words() == before, "the words after finds");
+}
+
+#[test]
+fn names_of_all_lengths_are_found_at_fences() {
+    for side in SIDES {
+        let mut fenced = FencedCalls::new(side);
+        for length in 0..=300 {
+            find_at_fences(&mut fenced, 0, length);
+            find_at_fences(&mut fenced, LAST_ACCOUNT, length);
         }
     }
 }
@@ -361,6 +426,7 @@ fn empty_buffers_are_not_touched() {
     let empty: &mut [u8] = &mut [];
     let edit = Edit { number: 0, name: &[], flags: 0, send: 0, receive: 0, lifetime: 0 };
     assert_eq!(service.edit(&edit), 60);
+    assert_eq!(service.find_name(&[]), NO_ACCOUNT);
     assert_eq!(service.request(&[], 0, empty), Answer { error: 60, value: 0 });
     assert_eq!(service.request(&w1(), 0, empty), Answer { error: 52, value: 0 });
     assert_eq!(library::rewrite(&[], empty), Answer { error: 60, value: 0 });
@@ -370,7 +436,7 @@ fn empty_buffers_are_not_touched() {
 }
 
 #[test]
-fn long_requests_and_outputs() {
+fn long_requests_names_and_outputs() {
     let edit = Edit { number: 1, name: b"web", flags: 12, send: 4, receive: 0, lifetime: 36_000 };
     for length in [1 << 20, 64 << 20] {
         let mut service = Box::new(library::Service::fresh());
@@ -387,6 +453,7 @@ fn long_requests_and_outputs() {
         assert_eq!(&output[..TICKET_0.len()], TICKET_0);
         assert!(output[TICKET_0.len()..].iter().all(|&byte| byte == 0xEE));
         assert_eq!(library::rewrite(&long, &mut output), Answer { error: 60, value: 0 });
+        assert_eq!(service.find_name(&long), NO_ACCOUNT);
         assert_eq!(library::rewrite(TICKET_0, &mut output[..LONGEST_RECORD]), granted);
     }
 }

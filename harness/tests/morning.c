@@ -1,6 +1,7 @@
-/* The morning of R11.3, with the bar of R11.7 before W3, and the clearing of R11.5 after it, over include/tickets.h: by the calls over a
- * tickets_service, and again by the plain calls. Every answer is compared with the bytes that the rules give. Prints the four lines of the
- * morning; a difference goes to standard error, and ends the program with 1. */
+/* The morning of R11.3, with the names of R11.8 before W1, the bar of R11.7 before W3, and the clearing of R11.5 after it, over
+ * include/tickets.h: by the calls over a tickets_service, and again by the plain calls; then names alike, and the words of R11.8. Every
+ * answer is compared with what the rules give. Prints the four lines of the morning; a difference goes to standard error, and ends the
+ * program with 1. */
 #include <stdio.h>
 #include <stdlib.h>
 #include <string.h>
@@ -35,6 +36,7 @@ typedef struct {
     void (*fresh)(tickets_service *service);
     uint32_t (*edit)(tickets_service *service, uint32_t number, const uint8_t *name, size_t name_len, uint32_t flags, uint64_t send,
                      uint64_t receive, uint32_t lifetime);
+    uint32_t (*find_name)(const tickets_service *service, const uint8_t *name, size_t name_len);
     tickets_answer (*request)(tickets_service *service, const uint8_t *request, size_t request_len, uint32_t clock, uint8_t *output,
                               size_t output_len);
     uint32_t (*clear)(tickets_service *service, uint32_t clock);
@@ -51,6 +53,11 @@ static uint32_t plain_edit(tickets_service *service, uint32_t number, const uint
                            uint64_t receive, uint32_t lifetime)
 {
     return tickets_edit(service->accounts, number, name, name_len, flags, send, receive, lifetime);
+}
+
+static uint32_t plain_find_name(const tickets_service *service, const uint8_t *name, size_t name_len)
+{
+    return tickets_find_name(service->accounts, name, name_len);
 }
 
 static tickets_answer plain_request(tickets_service *service, const uint8_t *bytes, size_t length, uint32_t clock, uint8_t *output,
@@ -74,9 +81,9 @@ static uint64_t plain_day_total(const tickets_service *service)
     return tickets_day_total(service->ledger);
 }
 
-static const calls OVER_SERVICE = {tickets_service_fresh, tickets_service_edit, tickets_service_request, tickets_service_clear,
-                                   tickets_service_descent, tickets_service_day_total};
-static const calls PLAIN = {plain_fresh, plain_edit, plain_request, plain_clear, plain_descent, plain_day_total};
+static const calls OVER_SERVICE = {tickets_service_fresh, tickets_service_edit, tickets_service_find_name, tickets_service_request,
+                                   tickets_service_clear, tickets_service_descent, tickets_service_day_total};
+static const calls PLAIN = {plain_fresh, plain_edit, plain_find_name, plain_request, plain_clear, plain_descent, plain_day_total};
 
 /* Ends the program unless the condition holds. */
 static void expect(int holds, const char *what)
@@ -128,18 +135,104 @@ static void set_tech(const calls *by, tickets_service *service, uint32_t flags)
     expect(by->edit(service, 0, (const uint8_t *)"tech", 4, flags, 0, 0, 36000) == 0, "the edit of tech");
 }
 
+/* `web`, with these flags beside its own. */
+static void set_web(const calls *by, tickets_service *service, uint32_t flags)
+{
+    flags |= TICKETS_FLAG_TRUSTED | TICKETS_FLAG_SERVICE;
+    expect(by->edit(service, 1, (const uint8_t *)"web", 3, flags, 0x4, 0, 36000) == 0, "the edit of web");
+}
+
 /* The three accounts of the morning. */
 static void set_accounts(const calls *by, tickets_service *service)
 {
     set_tech(by, service, 0);
-    uint32_t flags = TICKETS_FLAG_TRUSTED | TICKETS_FLAG_SERVICE;
-    expect(by->edit(service, 1, (const uint8_t *)"web", 3, flags, 0x4, 0, 36000) == 0, "the edit of web");
+    set_web(by, service, 0);
     expect(by->edit(service, 2, (const uint8_t *)"store", 5, TICKETS_FLAG_SERVICE, 0, 0, 36000) == 0, "the edit of store");
     tickets_service before = *service;
     expect(by->edit(service, 3, (const uint8_t *)"WEB", 3, 0, 0, 0, 1) == TICKETS_KDC_ERR_PRINCIPAL_NOT_UNIQUE, "3 named WEB");
     expect(by->edit(service, 1, (const uint8_t *)"www", 3, 0, 0, 0, 1) == TICKETS_KDC_ERR_POLICY, "1 named www");
     expect(by->edit(service, 64, (const uint8_t *)"new", 3, 0, 0, 0, 1) == TICKETS_KRB_ERR_GENERIC, "number 64");
     expect(memcmp(&before, service, sizeof before) == 0, "an edit that is refused leaves the service as before");
+}
+
+/* Finds a name, which has to stand for the account of this number. */
+static void found(const calls *by, const tickets_service *service, const char *name, size_t length, uint32_t number)
+{
+    expect(by->find_name(service, (const uint8_t *)name, length) == number, "the account found");
+}
+
+/* The names of R11.8, among them one of an account that is disabled meanwhile; and the service is as before. */
+static void find_names(const calls *by, tickets_service *service)
+{
+    static const struct {
+        const char *name;
+        size_t length;
+        uint32_t number;
+    } names[] = {{"tech", 4, 0},
+                 {"web", 3, 1},
+                 {"store", 5, 2},
+                 {"WEB", 3, 1},
+                 {"wEb", 3, 1},
+                 {"we", 2, TICKETS_NO_ACCOUNT},
+                 {"webs", 4, TICKETS_NO_ACCOUNT},
+                 {"web\0", 4, TICKETS_NO_ACCOUNT},
+                 {"\0web", 4, TICKETS_NO_ACCOUNT},
+                 {"", 0, TICKETS_NO_ACCOUNT},
+                 {"wdb", 3, TICKETS_NO_ACCOUNT},
+                 {"xeb", 3, TICKETS_NO_ACCOUNT},
+                 {"wea", 3, TICKETS_NO_ACCOUNT}};
+    tickets_service before = *service;
+    for (size_t i = 0; i < sizeof names / sizeof names[0]; i++) {
+        found(by, service, names[i].name, names[i].length, names[i].number);
+    }
+    set_web(by, service, TICKETS_FLAG_DISABLED);
+    found(by, service, "web", 3, 1);
+    set_web(by, service, 0);
+    expect(memcmp(&before, service, sizeof before) == 0, "finds leave the service as before");
+}
+
+/* The last letters of 26 names, small and in capitals. */
+static const char SMALL[] = "abcdefghijklmnopqrstuvwxyz";
+static const char CAPITALS[] = "ABCDEFGHIJKLMNOPQRSTUVWXYZ";
+
+/* Names of this length that differ in the last byte only: each finds its own account, in capitals too. */
+static void find_alike(const calls *by, tickets_service *service, size_t length)
+{
+    char small[] = "recorder-ward-cardiology";
+    char capitals[] = "RECORDER-WARD-CARDIOLOGY";
+    by->fresh(service);
+    for (uint32_t number = 0; number < 26; number++) {
+        small[length - 1] = SMALL[number];
+        expect(by->edit(service, number, (const uint8_t *)small, length, 0, 0, 0, 1) == 0, "the edit of a name like others");
+    }
+    for (uint32_t number = 0; number < 26; number++) {
+        small[length - 1] = SMALL[number];
+        capitals[length - 1] = CAPITALS[number];
+        found(by, service, small, length, number);
+        found(by, service, capitals, length, number);
+    }
+    small[length - 1] = '1';
+    found(by, service, small, length, TICKETS_NO_ACCOUNT);
+}
+
+/* Compares two words that differ in one byte, at each of its places; the answer has to be this one. */
+static void compare_bytes(uint64_t one, uint64_t other, uint32_t match)
+{
+    for (unsigned at = 0; at < 64; at += 8) {
+        expect(tickets_words_match(one << at, other << at) == match, "words that differ at one place");
+    }
+}
+
+/* The words of R11.8. */
+static void compare_words(void)
+{
+    expect(tickets_words_match(0x2000000000626557, 0x2000000000426577) == 1, "words that match");
+    compare_bytes(0x40, 0x60, 0);
+    compare_bytes(0x5b, 0x7b, 0);
+    compare_bytes(0xc1, 0xe1, 0);
+    compare_bytes(0x00, 0x20, 0);
+    compare_bytes(0x41, 0x61, 1);
+    compare_bytes(0x5a, 0x7a, 1);
 }
 
 /* Prints the line of a request: kind, error, record. */
@@ -223,8 +316,8 @@ static void clear_out(const calls *by, tickets_service *service)
     expect(by->day_total(service) == 0, "the day total of an empty ledger");
 }
 
-/* The morning from a service whose words are not 0, with the bar before W3, to W4; then the clearing, the requests with tickets that went,
- * and W1 once more. */
+/* The morning from a service whose words are not 0, with the names before W1 and the bar before W3, to W4; then the clearing, the requests
+ * with tickets that went, and W1 once more. */
 static void morning(const calls *by, tickets_service *service, int print)
 {
     request second = w2();
@@ -233,6 +326,7 @@ static void morning(const calls *by, tickets_service *service, int print)
     by->fresh(service);
     expect(by->day_total(service) == 0, "the day total of a fresh service");
     set_accounts(by, service);
+    find_names(by, service);
     granted(by, service, W1, sizeof W1, 1000, TICKET_0, sizeof TICKET_0, print);
     refused(by, service, second.bytes, second.length, 699, OUTPUT, TICKETS_KRB_AP_ERR_TKT_NYV, 0);
     granted(by, service, second.bytes, second.length, 1010, TICKET_1, sizeof TICKET_1, print);
@@ -257,5 +351,11 @@ int main(void)
     morning(&OVER_SERVICE, &one, 1);
     morning(&PLAIN, &other, 0);
     expect(memcmp(&one, &other, sizeof one) == 0, "the same words by either way");
+    static const size_t lengths[] = {1, 7, 8, 9, 24};
+    for (size_t i = 0; i < sizeof lengths / sizeof lengths[0]; i++) {
+        find_alike(&OVER_SERVICE, &one, lengths[i]);
+        find_alike(&PLAIN, &other, lengths[i]);
+    }
+    compare_words();
     return 0;
 }

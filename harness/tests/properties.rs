@@ -1,26 +1,43 @@
 //! Properties of the compiled library that need no second implementation: the same calls have the
 //! same answers, whatever else memory holds.
 
-use harness::histories::{edit_of, generate, Call, History};
-use harness::library::Service;
+use harness::histories::{edit_of, generate, odd, Call, History};
+use harness::library::{find_name, words_match, Service};
+use harness::limits::{HEADER_SIZE, NAME_LIMIT, ROW_SIZE};
 use harness::random::Random;
-use harness::words::{COUNT_AT, NEXT_AT};
+use harness::words::{self, AccountWords, COUNT_AT, NEXT_AT};
+use std::ops::Range;
 
 /// Where the seeds of the histories begin, and how many there are.
 const SEED: u64 = 0x7072_6F70_0000_0000;
 const HISTORIES: u64 = 200;
 
-/// What a call answered: the error number, or of a clearing how many it took out; and the record of a
-/// grant.
+/// What a call answered: the error number, of a find the account, or of a clearing how many it took out;
+/// and the record of a grant.
 type Reply = (u32, Vec<u8>);
 
 /// Makes a call.
 fn make(service: &mut Service, call: &Call, random: &mut Random) -> Reply {
     match call {
         Call::Edit { .. } => (service.edit(&edit_of(call).expect("an edit")), Vec::new()),
+        Call::Find { name } => (find_among(&service.accounts, name, random), Vec::new()),
         Call::Request { request, clock, output } => ask(service, request, *clock, *output, random),
         Call::Clear { clock } => (service.clear(*clock), Vec::new()),
     }
+}
+
+/// The bytes at some place among random bytes: all of them, and where these stand.
+fn among(bytes: &[u8], random: &mut Random) -> (Vec<u8>, Range<usize>) {
+    let at = random.below(16);
+    let mut all = random.bytes(at + bytes.len() + 16);
+    all[at..][..bytes.len()].copy_from_slice(bytes);
+    (all, at..at + bytes.len())
+}
+
+/// Finds a name that stands at some place among random bytes.
+fn find_among(accounts: &AccountWords, name: &[u8], random: &mut Random) -> u32 {
+    let (all, place) = among(name, random);
+    find_name(accounts, &all[place])
 }
 
 /// Makes a request; its buffers stand at some place among random bytes. Bytes of the output behind the
@@ -32,12 +49,10 @@ fn ask(
     output: usize,
     random: &mut Random,
 ) -> Reply {
-    let at = random.below(16);
-    let mut given = random.bytes(at + request.len() + 16);
-    given[at..][..request.len()].copy_from_slice(request);
+    let (given, place) = among(request, random);
     let before = random.bytes(output + 16);
     let mut after = before.clone();
-    let answer = service.request(&given[at..][..request.len()], clock, &mut after[..output]);
+    let answer = service.request(&given[place], clock, &mut after[..output]);
     let length = answer.value as usize;
     assert_eq!(after[length..], before[length..], "bytes that are not the record's, {request:x?}");
     (answer.error, after[..length].to_vec())
@@ -148,6 +163,73 @@ fn descent_and_day_total_only_read() {
         assert_eq!(service.day_total(), total);
         assert_same(&service, &before, "the words after descents and totals");
     }
+}
+
+/// The names of all accounts, in some letter case, and others made of them.
+fn names(accounts: &AccountWords, random: &mut Random) -> Vec<Vec<u8>> {
+    let mut names = Vec::new();
+    for account in words::table(accounts).rows.iter().flatten() {
+        names.push(odd::letter_case(random, account.name()));
+        names.push(odd::near_name(random, account.name().to_vec()));
+    }
+    names
+}
+
+/// Makes all words of the accounts random but for the names and their lengths: the header, the bytes
+/// behind a name, flags, lifetime and free bits, the sets, and the free words.
+fn keep_names_alone(accounts: &mut AccountWords, random: &mut Random) {
+    let before = *accounts;
+    accounts.iter_mut().for_each(|word| *word = random.word());
+    let rows = before[HEADER_SIZE..].chunks_exact(ROW_SIZE);
+    for (row, old) in accounts[HEADER_SIZE..].chunks_exact_mut(ROW_SIZE).zip(rows) {
+        let length = usize::from(old[3] as u8);
+        row[3] = row[3] & !0xFF | length as u64;
+        for at in 0..length.min(NAME_LIMIT) {
+            let byte = 0xFF << (8 * (at % 8));
+            row[at / 8] = row[at / 8] & !byte | old[at / 8] & byte;
+        }
+    }
+}
+
+#[test]
+fn what_is_found_hangs_on_the_names_alone() {
+    let mut found = [0; 2];
+    for history in histories() {
+        let mut random = Random(history.seed);
+        let mut service = first_over(&history, 0);
+        make_all(&mut service, &history.calls, &mut random);
+        let before = service.clone();
+        let mut others = service.accounts;
+        for name in names(&service.accounts, &mut random) {
+            keep_names_alone(&mut others, &mut random);
+            let number = service.find_name(&name);
+            assert_eq!(find_among(&others, &name, &mut random), number, "{}", name.escape_ascii());
+            found[usize::from(number < 64)] += 1;
+        }
+        assert_same(&service, &before, "the words after finds");
+    }
+    println!("{} names found, {} not found", found[1], found[0]);
+    assert!(found.iter().all(|&count| count > 1_000));
+}
+
+#[test]
+fn words_match_where_each_pair_of_bytes_alone_does() {
+    let mut random = Random(SEED);
+    let mut matching = 0;
+    for _ in 0..200_000 {
+        let a = random.word();
+        let b = a ^ 0x2020_2020_2020_2020 & random.word() & random.word() & random.word();
+        let of_bytes = (0..8).map(|place| 0xFF << (8 * place)).all(|byte: u64| {
+            let around = random.word() & !byte;
+            words_match(a & byte | around, b & byte | around) == 1
+        });
+        assert_eq!(words_match(a, b), of_bytes.into(), "{a:#018x} and {b:#018x}");
+        assert_eq!(words_match(b, a), of_bytes.into(), "{b:#018x} and {a:#018x}");
+        assert_eq!(words_match(a, a), 1, "{a:#018x}");
+        matching += u32::from(of_bytes);
+    }
+    println!("{matching} of 200000 pairs of words match");
+    assert!((1_000..199_000).contains(&matching));
 }
 
 /// The words after a clearing at this clock reading, and how many tickets it took out.

@@ -2,6 +2,7 @@
 //
 //     fresh                                                       0 -
 //     edit NUMBER NAME FLAGS SEND RECEIVE LIFETIME                0 -, or 12 -
+//     find NAME                                                   0 NUMBER, or 6 -
 //     request CLOCK OUTPUT-LENGTH BYTES                           0 RECORD, or 32 -
 //     clear CLOCK                                                 0 COUNT
 //     descent NUMBER                                              0 STEPS, or 41 -
@@ -15,8 +16,10 @@
 //
 // Words are parted by one space. Numbers are decimal, or hexadecimal after 0x; bytes are hexadecimal, `-` for none; a name is as it is.
 // A line that is no call changes nothing, and is answered by `? LINE: what is wrong`.
+use definitions::ACCOUNT_LIMIT;
 use definitions::ACCOUNTS_SIZE;
 use definitions::Descended;
+use definitions::Error;
 use definitions::LEDGER_SIZE;
 use definitions::LONGEST_RECORD;
 use definitions::Ticket;
@@ -751,6 +754,19 @@ fn one_number(line: &[u8]) -> Wrong {
     Wrong::Nothing
 }
 
+fn call_find(accounts: &AccountWords, line: &[u8]) -> Wrong {
+    if !has_arguments(line, 1, 1) {
+        return Wrong::Words;
+    }
+    let number = rules::find_name(accounts, word(line, 1));
+    if number < ACCOUNT_LIMIT {
+        print_value(number as u64);
+    } else {
+        print_error(record::error_number(Error::KDC_ERR_C_PRINCIPAL_UNKNOWN));
+    }
+    Wrong::Nothing
+}
+
 fn call_clear(ledger: &mut LedgerWords, line: &[u8]) -> Wrong {
     let wrong = one_number(line);
     if !is_wrong(wrong) {
@@ -810,6 +826,7 @@ fn call_ledger(ledger: &LedgerWords, line: &[u8]) -> Wrong {
 enum Command {
     Fresh,
     Edit,
+    Find,
     Request,
     Clear,
     Descent,
@@ -829,6 +846,9 @@ fn plain_command(command: &[u8]) -> Command {
     }
     if same(command, b"edit") {
         return Command::Edit;
+    }
+    if same(command, b"find") {
+        return Command::Find;
     }
     if same(command, b"request") {
         return Command::Request;
@@ -868,6 +888,7 @@ fn call(accounts: &mut AccountWords, ledger: &mut LedgerWords, line: &[u8]) -> W
     match command_of(word(line, 0)) {
         Command::Fresh => call_fresh(accounts, ledger, line),
         Command::Edit => call_edit(accounts, line),
+        Command::Find => call_find(accounts, line),
         Command::Request => call_request(accounts, ledger, line),
         Command::Clear => call_clear(ledger, line),
         Command::Descent => call_descent(ledger, line),

@@ -3,12 +3,13 @@
 use mathlib.Core.Path.{_≡_, refl}
 use mathlib.Core.Bool.{Bool, true, false, cond}
 use mathlib.Core.List.{List, [], _∷_, _++_, map}
-use Prim.Native.Nat.{ℕ, zero, suc, _+_}
+use Prim.Native.Nat.{ℕ, zero, suc, _+_, _-_, _*_, _^_}
 use lib.ListN.{length, replicate}
 use Rattle.definitions.specs.Errors.{answerNumber}
 use Rattle.definitions.specs.Fields.{hasBit}
+use Rattle.definitions.specs.Words.{lanesOf}
 use Rattle.definitions.specs.Accounts.{Row, noRow, Table, rowOf, accountAt, noAccounts, isDisabled, isEnabled, isBarred, isTrusted, isService, inSet}
-use Rattle.definitions.specs.Names.{goodByte, goodBytes, goodName, lower, agree, sameName, matches, numberFrom, findName, nameTaken}
+use Rattle.definitions.specs.Names.{goodByte, goodBytes, goodName, lower, agree, sameName, wordsMatch, matches, numberFrom, findName, nameTaken}
 use Rattle.definitions.specs.Edits.{Edit, editOf, editRow, editChecks, editAnswer, edited}
 use Rattle.definitions.specs.declared.account.Account.{Account}
 use Rattle.definitions.proofs.DecisionCases.{tech, web, store}
@@ -51,6 +52,20 @@ named byte = editRow (editOf 0 (byte ∷ []) 0 0 0 0) ∷ []
 -- a byte of a name in a request finds a byte of an account's name: 0 where it does, 1 where none is found
 abbrev found : ℕ → ℕ → ℕ
 found byte asked = findName (named byte) (asked ∷ [])
+
+-- whether two bytes match, in words that are 0 but for them, at each of the eight places
+abbrev placed : ℕ → ℕ → List Bool
+placed byte other = map (λ place. wordsMatch (byte * 256 ^ place) (other * 256 ^ place)) (span 0 8)
+
+-- a name of n bytes, equal but for the last one
+abbrev ending : ℕ → ℕ → ℕ → List ℕ
+ending n byte last = replicate (n - 1) byte ++ (last ∷ [])
+
+-- which account is found among `..b` and `..c`, names of n bytes: that of `..c`, of `..C` in capitals, of `..d`, and of `..c` with a byte more
+abbrev found-ending : ℕ → List ℕ
+found-ending n =
+    map (findName (editRow (editOf 0 (ending n 0x61 0x62) 0 0 0 0) ∷ editRow (editOf 1 (ending n 0x61 0x63) 0 0 0 0) ∷ []))
+    (ending n 0x61 0x63 ∷ ending n 0x41 0x43 ∷ ending n 0x61 0x64 ∷ (ending n 0x61 0x63 ++ (0 ∷ [])) ∷ [])
 
 -- two accounts with one name but for letter case, and one never set before them
 abbrev twins : Table
@@ -97,9 +112,14 @@ pub record AccountCases : Type 0 where
   pub letters : map lower (span 0 256) ≡ span 0 0x41 ++ span 0x61 26 ++ span 0x5B 165
   pub case-letters : found 0x41 0x61 ∷ found 0x61 0x41 ∷ found 0x5A 0x7A ∷ found 0x7A 0x5A ∷ [] ≡ 0 ∷ 0 ∷ 0 ∷ 0 ∷ []
   pub case-others : found 0x40 0x60 ∷ found 0x60 0x40 ∷ found 0x5B 0x7B ∷ found 0x7B 0x5B ∷ found 0xC1 0xE1 ∷ [] ≡ 1 ∷ 1 ∷ 1 ∷ 1 ∷ 1 ∷ []
+  -- R2.12: two bytes at each place of a word, and whole words
+  pub letters-placed : map (λ byte. placed byte (byte + 0x20)) (0x41 ∷ 0x5A ∷ []) ≡ replicate 2 (replicate 8 true)
+  pub others-placed : map (λ byte. placed byte (byte + 0x20)) (0x40 ∷ 0x5B ∷ 0xC1 ∷ 0x00 ∷ 0x21 ∷ []) ≡ replicate 5 (replicate 8 false)
+  pub words-whole : wordsMatch 0x2000000000626557 0x2000000000426577 ∷ wordsMatch 0xFF41FF41FF41FF41 0xFF61FF61FF61FF61 ∷ wordsMatch 0x6162636465666768 0x6162636465666769 ∷ [] ≡ true ∷ true ∷ false ∷ []
   pub case-of-all : findName table WEB ∷ findName table (0x77 ∷ 0x45 ∷ 0x62 ∷ []) ∷ [] ≡ 1 ∷ 1 ∷ []
   pub each-byte : map (findName table) ((0x78 ∷ 0x65 ∷ 0x62 ∷ []) ∷ (0x77 ∷ 0x66 ∷ 0x62 ∷ []) ∷ (0x77 ∷ 0x65 ∷ 0x63 ∷ []) ∷ []) ≡ 64 ∷ 64 ∷ 64 ∷ []
   pub each-length : map (findName table) ((web ++ (0 ∷ [])) ∷ (0x77 ∷ 0x65 ∷ []) ∷ [] ∷ []) ≡ 64 ∷ 64 ∷ 64 ∷ []
+  pub lengths-found : map found-ending (1 ∷ 7 ∷ 8 ∷ 9 ∷ 16 ∷ 17 ∷ 24 ∷ []) ≡ replicate 7 (1 ∷ 1 ∷ 2 ∷ 2 ∷ [])
   pub exact : sameName false web web ∷ sameName false web WEB ∷ sameName true web WEB ∷ sameName false WEB web ∷ [] ≡ true ∷ false ∷ true ∷ false ∷ []
   pub past-the-end : agree false (0 ∷ []) [] 1 ∷ agree false [] (0 ∷ []) 1 ∷ agree false (1 ∷ []) [] 1 ∷ [] ≡ true ∷ true ∷ false ∷ []
   -- R2.7: the lowest account that matches, a disabled one too; nothing finds an account that is not set
@@ -122,7 +142,7 @@ pub record AccountCases : Type 0 where
   pub edit-length : length (edited table change) ≡ 64
 
 pub account-cases : AccountCases
-unfolding hasBit goodBytes goodName lower agree sameName numberFrom nameTaken editChecks
+unfolding hasBit lanesOf goodBytes goodName lower agree sameName numberFrom nameTaken editChecks
 account-cases =
     record {
       flag-none = refl;
@@ -149,9 +169,13 @@ account-cases =
       letters = refl;
       case-letters = refl;
       case-others = refl;
+      letters-placed = refl;
+      others-placed = refl;
+      words-whole = refl;
       case-of-all = refl;
       each-byte = refl;
       each-length = refl;
+      lengths-found = refl;
       exact = refl;
       past-the-end = refl;
       lowest = refl;

@@ -1,27 +1,54 @@
 // Bytes packed into words, eight a word, as names and trails are stored.
-use crate::byte;
 use definitions::Name;
 use definitions::Span;
+use definitions::TWO_32;
 ghost use mathlib.Core.Path.{_≡_};
+ghost use Prim.Native.Nat.{_+_, _^_, _≤_, _<_};
+ghost use lib.ListN.{length};
 ghost use Rattle.definitions.specs.Limits.{byteBits};
 ghost use Rattle.definitions.specs.Words.{packAt};
 ghost use Rattle.definitions.specs.Requests.{partOf};
 ghost use Rattle.definitions.specs.Names.{nameOf};
 
-// Eight bytes from a position on as a word, the first lowest; bytes past the end count as 0.
-pub(crate) fn pack(bytes: &[u8], from: usize) -> u64
-    ensures { λ r. ⌜ r ≡ packAt byteBits (now (bytes .entry)) from 8 ⌝ }
+// So many bytes from a position on as a word, the first lowest.
+fn pack_some(bytes: &[u8], from: usize, count: usize) -> u64
+    requires { ⌜ (count ≤ 8) × (from + count ≤ length (now bytes)) ⌝ }
+    ensures exact { λ r. ⌜ r ≡ packAt byteBits (now (bytes .entry)) from count ⌝ }
+    ensures bounded { λ r. ⌜ r < 256 ^ count ⌝ }
 {
-    if bytes.len() <= from {
-        return 0;
-    }
     let mut word: u64 = 0;
-    let mut i = 8;
+    let mut i = count;
     while 0 < i {
         i -= 1;
-        word = word * 256 + byte(bytes, from + i) as u64;
+        word = word * 256 + bytes[from + i] as u64;
     }
     word
+}
+
+// Eight bytes from a position on as a word, the first lowest; by halves, each of which is one load when it is compiled.
+pub(crate) fn pack_whole(bytes: &[u8], from: usize) -> u64
+    requires { ⌜ from + 8 ≤ length (now bytes) ⌝ }
+    ensures { λ r. ⌜ r ≡ packAt byteBits (now (bytes .entry)) from 8 ⌝ }
+{
+    pack_some(bytes, from + 4, 4) * TWO_32 + pack_some(bytes, from, 4)
+}
+
+// The same, where bytes past the end count as 0. Of eight bytes that end with the last one those before the position are shifted out.
+fn pack(bytes: &[u8], from: usize) -> u64
+    ensures { λ r. ⌜ r ≡ packAt byteBits (now (bytes .entry)) from 8 ⌝ }
+{
+    let end = bytes.len();
+    if end <= from {
+        return 0;
+    }
+    let rest = end - from;
+    if 8 <= rest {
+        return pack_whole(bytes, from);
+    }
+    if 8 <= end {
+        return pack_whole(bytes, end - 8) >> (64 - 8 * rest);
+    }
+    pack_some(bytes, from, rest)
 }
 
 // A name in words.

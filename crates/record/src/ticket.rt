@@ -1,5 +1,5 @@
 // What a ticket value tells: the map and the back numbers of its origin, and its trail as a word; and the blank ticket (R3.2, R3.3).
-use crate::packing::pack;
+use crate::packing::pack_whole;
 use definitions::Origin;
 use definitions::Principal;
 use definitions::TRAIL_LIMIT;
@@ -55,7 +55,7 @@ pub fn trail_word(trail: [Principal; TRAIL_LIMIT]) -> u64
     ensures exact { λ r. ⌜ r ≡ packAt byteBits trail 0 trailLimit ⌝ }
     ensures places { λ _. ⌜ (trailLimit ≡ length trail) × Bytes trail ⌝ }
 {
-    pack(&trail, 0)
+    pack_whole(&trail, 0)
 }
 
 // The ticket that stands where there is none.

@@ -1,29 +1,31 @@
 -- Laws of the search for a name: row by row, and word by word.
 -- Assumes nothing.
-use mathlib.Core.Path.{_≡_, refl, sym, ap, ap₂, _∙_}
+use mathlib.Core.Path.{_≡_, refl, sym, ap, _∙_}
 use mathlib.Core.Bool.{Bool, true, false, not, _&&_, cond, false≢true}
 use mathlib.Core.List.{List, [], _∷_}
-use mathlib.Core.Logic.{_⊎_, inl, inr}
 use Prim.Native.Nat.{ℕ, zero, suc, _+_, _-_, _*_, _/_, _%_, _^_, _≤_, _<_, min}
-use native.Mathlib.Nat.{eq-or-lt-of-le, le-of-suc-le-suc, div-div-eq-div-mul}
+use native.Mathlib.Nat.{add-zero, mul-zero, mul-suc, div-one, mod-eq-of-lt}
 use native.Mathlib.Omega.{arith}
 use lib.ListN.{length, getD}
 use lib.Seq.{ext-getD}
-use lib.Bits.{bitAnd, and-zero-r, and-mask, and-block}
-use lib.Pow.{pow-add}
+use lib.Bits.{bitAnd, and-zero-r, and-mask}
+use lib.Pow.{shr-shr, high}
 use lib.Dec.{leb, eqb, ltb, lit<}
-use borrow.Author.Tests.{eq-eqb, ne-eqb, eqb-true, leb-true, lt-ltb, le-ltb}
+use borrow.Author.Tests.{eq-eqb, ne-eqb, eqb-true, leb-true, lt-ltb, le-ltb, ltb-true, ltb-false}
 use Rattle.definitions.specs.Limits.{accountLimit, nameLimit, byteBits}
-use Rattle.definitions.proofs.Bools.{and-left, and-right, and-no, and-yes}
+use Rattle.definitions.proofs.Bools.{and-left, and-right, same-test}
+use Rattle.definitions.proofs.Names.{agree-each, each-agree, bytes-each, each-bytes}
 use Rattle.definitions.specs.Fields.{Bytes}
 use Rattle.definitions.specs.Accounts.{Table, rowOf}
-use Rattle.definitions.specs.AccountWords.{rowStart, rowWord, lengthAt, nameAt, setLength, rowAt, rowsFrom, tableOf}
+use Rattle.definitions.specs.AccountWords.{rowStart, lengthAt, nameAt, setLength, rowAt, rowsFrom, tableOf}
 use Rattle.definitions.specs.Words.{laneOf, laneAt, packAt}
-use Rattle.definitions.specs.Names.{nameOf, lower, folded, agree, sameName, matches, numberFrom, findName, nameTaken}
+use Rattle.definitions.specs.Names.{nameOf, folded, agree, sameName, matches, numberFrom, findName, nameTaken}
 use Rattle.definitions.specs.declared.account.Name.{Name}
-use Rattle.rules.specs.NameSearch.{wordsOf, bytesOf, hasName, firstFrom, lows, lowsFrom}
+use Rattle.rules.specs.Lanes.{allLanes}
+use Rattle.rules.specs.NameSearch.{wordsOf, bytesOf, wordsAgree, cutWord, hasName, firstFrom}
 use Rattle.definitions.proofs.AccountWords.{rows-length, row-of, row-set, row-unset, name-length, name-byte}
-use Rattle.definitions.proofs.Words.{pack-lane}
+use Rattle.definitions.proofs.Words.{pack-lane, lane-small, lanes-same}
+use Rattle.rules.proofs.Lanes.{and-lane, all-lane, all-past}
 
 -- what holds of each of a name's three words
 three : (P : ℕ → Type 0) → P 0 → P 1 → P 2 → (k : ℕ) → k < 3 → P k
@@ -32,137 +34,101 @@ three P a b c (suc zero) h = b
 three P a b c (suc (suc zero)) h = c
 three P a b c (suc (suc (suc k))) h = absurd (omega arith)
 
--- a length that a name has is at most 24
+-- a length that a name has is at most 24, and not 0
 pub set-most : (n : ℕ) → setLength n ≡ true → n ≤ nameLimit
 set-most n h = leb-true n nameLimit (and-right (leb 1 n) (leb n nameLimit) h)
 
--- ---- Low bits
--- letter case leaves the low five bits of a byte alone
-low-five : (f : Bool) (c : ℕ) → folded f c % 32 ≡ c % 32
-unfolding lower
-low-five true c = by (leb 0x41 c && leb c 0x5A)
-  where
-    by : (p : Bool) → cond p (c + 32) c % 32 ≡ c % 32
-    by true = omega arith
-    by false = refl
-low-five false c = refl
+pub set-least : (n : ℕ) → setLength n ≡ true → 0 < n
+set-least n h = leb-true 1 n (and-left (leb 1 n) (leb n nameLimit) h)
 
--- two words whose first n bytes have the same low five bits
-low-byte : (x : ℕ) → bitAnd (x % 256) 31 ≡ x % 32
-low-byte x = let e : x % 256 % 32 ≡ x % 32 = omega arith in and-mask (x % 256) 5 ∙ e
-
-lows-step : (n x : ℕ) → bitAnd x (lows (suc n)) ≡ bitAnd (x / 256) (lows n) * 256 + x % 32
-unfolding lows
-lows-step n x =
-    let e : x ≡ x / 256 * 256 + x % 256 = omega arith in
-    ap (λ (y : ℕ). bitAnd y (lows n * 256 + 31)) e ∙ and-block 8 (x / 256) (lows n) (x % 256) 31 (omega arith) (lit< tt) ∙ ap (λ (y : ℕ). bitAnd (x / 256) (lows n) * 256 + y) (low-byte x)
-
-lows-same : (n x y : ℕ) → ((i : ℕ) → i < n → x / 2 ^ (8 * i) % 32 ≡ y / 2 ^ (8 * i) % 32) → bitAnd x (lows n) ≡ bitAnd y (lows n)
-unfolding lows
-lows-same zero x y h = and-zero-r x ∙ sym (and-zero-r y)
-lows-same (suc n) x y h =
-    let first : x % 32 ≡ y % 32 = omega (arith, h 0 (omega arith)) in
-    lows-step n x ∙ ap₂ (λ (p q : ℕ). p * 256 + q) (lows-same n (x / 256) (y / 256) (λ i l. shifted x i ∙ h (suc i) (omega arith) ∙ sym (shifted y i))) first
-    ∙ sym (lows-step n y)
-  where
-    shifted : (z i : ℕ) → z / 256 / 2 ^ (8 * i) % 32 ≡ z / 2 ^ (8 * suc i) % 32
-    shifted z i =
-        let e : 8 * suc i ≡ 8 + 8 * i = omega arith in
-        rw (e, pow-add 2 8 (8 * i), ← div-div-eq-div-mul z 256 (2 ^ (8 * i)))
-
--- fewer bytes of a mask
-lows-shift : (n k : ℕ) → lows (n + k) / 2 ^ (8 * k) ≡ lows n
-unfolding lows
-lows-shift n zero = let e : n + 0 ≡ n = omega arith in rw e (omega arith)
-lows-shift n (suc k) =
+-- ---- Words cut to a name's length
+-- the first bytes of a word, by a shift of all eight
+all-shift : (w c n k : ℕ) → c < 2 ^ w → allLanes w (n + k) c / 2 ^ (w * k) ≡ allLanes w n c
+unfolding allLanes
+all-shift w c n zero h = rw (add-zero, mul-zero, div-one)
+all-shift w c n (suc k) h =
     let e : n + suc k ≡ suc (n + k) = omega arith in
-    let f : 8 * suc k ≡ 8 + 8 * k = omega arith in
-    let d : (lows (n + k) * 256 + 31) / 256 ≡ lows (n + k) = omega arith in
-    rw (e, f, pow-add 2 8 (8 * k), ← div-div-eq-div-mul (lows (n + k) * 256 + 31) 256 (2 ^ (8 * k)), d) (lows-shift n k)
+    let f : w * suc k ≡ w + w * k = omega (arith, mul-suc w k) in
+    rw (e, f, ← shr-shr (allLanes w (n + k) c * 2 ^ w + c) w (w * k), high (allLanes w (n + k) c) w h) (all-shift w c n k h)
 
-pub mask-some : (n : ℕ) → n ≤ 8 → 0x1F1F1F1F1F1F1F1F / 2 ^ (64 - 8 * n) ≡ lows n
-unfolding lows
-mask-some n h =
+pub bytes-shifted : (n : ℕ) → n ≤ 8 → 0xFFFFFFFFFFFFFFFF / 2 ^ (64 - 8 * n) ≡ allLanes byteBits n 0xFF
+unfolding allLanes
+bytes-shifted n h =
     let f : 64 - 8 * n ≡ 8 * (8 - n) = omega arith in
     let g : n + (8 - n) ≡ 8 = omega arith in
-    rw f (rw g at (lows-shift n (8 - n)))
+    rw f (rw g at (all-shift byteBits 0xFF n (8 - n) (lit< tt)))
 
--- the low bits of a byte, in its word
-lane-low : (w : List ℕ) (i q p : ℕ) → p < 8 → laneAt byteBits w i (8 * q + p) % 32 ≡ getD w (i + q) 0 / 2 ^ (8 * p) % 32
-unfolding laneAt laneOf
-lane-low w i q p h =
-    let d : (8 * q + p) / 8 ≡ q = omega arith in
-    let r : (8 * q + p) % 8 ≡ p = omega arith in
-    rw (d, r) (omega arith)
+-- a byte of a cut word: that of the word as far as the name goes, 0 behind it
+module _ (m x p : ℕ) where
+  cut-in : p < m → laneOf byteBits (bitAnd x (allLanes byteBits m 0xFF)) p ≡ laneOf byteBits x p
+  cut-in h =
+      and-lane byteBits x (allLanes byteBits m 0xFF) p
+      ∙ rw (all-lane byteBits 0xFF (lit< tt) m p h) (and-mask (laneOf byteBits x p) 8 ∙ mod-eq-of-lt (lane-small byteBits x p))
 
--- ---- Bytes of two names, the first in some words, the second in others
+  cut-out : m ≤ p → laneOf byteBits (bitAnd x (allLanes byteBits m 0xFF)) p ≡ 0
+  cut-out h = and-lane byteBits x (allLanes byteBits m 0xFF) p ∙ rw (all-past byteBits 0xFF (lit< tt) m p h) (and-zero-r (laneOf byteBits x p))
+
+-- byte for byte they agree where the words are equal
+pub words-equal : (x y : ℕ) → x < 2 ^ 64 → y < 2 ^ 64 → eqb x y ≡ wordsAgree false x y
+words-equal x y a b =
+    same-test (eqb x y) (wordsAgree false x y) (λ e. each-bytes false x y (λ p l. ap (λ (z : ℕ). laneOf byteBits z p) (eqb-true x y e)))
+    (λ e. eq-eqb x y (lanes-same byteBits 8 x y a b (bytes-each false x y e)))
+
+-- past a name's end no byte is left to tell words apart
+pub word-past : (f : Bool) (n k x y : ℕ) → n ≤ 8 * k → wordsAgree f (cutWord n k x) (cutWord n k y) ≡ true
+word-past f n k x y h =
+    each-bytes f (cutWord n k x) (cutWord n k y)
+    (λ p l. let m : min (n - 8 * k) 8 ≤ p = omega arith in rw (cut-out (min (n - 8 * k) 8) x p m, cut-out (min (n - 8 * k) 8) y p m))
+
+-- ---- Two names, the first in some words, the second in others
 module _ (f : Bool) (w v : List ℕ) (i j n : ℕ) where
-  abbrev same : ℕ → Bool
-  same k = eqb (folded f (laneAt byteBits w i k)) (folded f (laneAt byteBits v j k))
+  -- word k of both, cut to the names' length, agree
+  abbrev pub wordOf : ℕ → Bool
+  wordOf k = wordsAgree f (cutWord n k (getD w (i + k) 0)) (cutWord n k (getD v (j + k) 0))
 
-  abbrev run : ℕ → Bool
-  run k = agree f (nameAt w i n) (nameAt v j n) k
+  -- byte p of word k, in its place
+  lane-in : (u : List ℕ) (a k p : ℕ) → p < 8 → laneAt byteBits u a (8 * k + p) ≡ laneOf byteBits (getD u (a + k) 0) p
+  unfolding laneAt
+  lane-in u a k p h =
+      let d : (8 * k + p) / 8 ≡ k = omega arith in
+      let r : (8 * k + p) % 8 ≡ p = omega arith in
+      rw (d, r)
 
-  -- one byte more
-  pub run-more : (k : ℕ) → k < n → run (suc k) ≡ (run k && same k)
-  unfolding agree
-  run-more k h = rw (name-byte w i n k h, name-byte v j n k h)
+  name-words : agree f (nameAt w i n) (nameAt v j n) n ≡ true → (k : ℕ) → wordOf k ≡ true
+  name-words h k = each-bytes f (cutWord n k (getD w (i + k) 0)) (cutWord n k (getD v (j + k) 0)) (λ p l. by p l (ltb p (min (n - 8 * k) 8)) refl)
+    where
+      by : (p : ℕ) → p < 8 → (t : Bool) → ltb p (min (n - 8 * k) 8) ≡ t
+          → folded f (laneOf byteBits (cutWord n k (getD w (i + k) 0)) p) ≡ folded f (laneOf byteBits (cutWord n k (getD v (j + k) 0)) p)
+      by p l true e =
+          let m = ltb-true p (min (n - 8 * k) 8) e in
+          let q : 8 * k + p < n = omega arith in
+          let s = agree-each f (nameAt w i n) (nameAt v j n) n h (8 * k + p) q in
+          rw (cut-in (min (n - 8 * k) 8) (getD w (i + k) 0) p m, cut-in (min (n - 8 * k) 8) (getD v (j + k) 0) p m, ← lane-in w i k p l, ← lane-in v j k p l)
+          (rw (name-byte w i n (8 * k + p) q, name-byte v j n (8 * k + p) q) at s)
+      by p l false e =
+          let m = ltb-false p (min (n - 8 * k) 8) e in
+          rw (cut-out (min (n - 8 * k) 8) (getD w (i + k) 0) p m, cut-out (min (n - 8 * k) 8) (getD v (j + k) 0) p m)
 
-  -- where all agree each does
-  run-last : (m k : ℕ) → (k ≡ m) ⊎ (k < m) → (run m && same m) ≡ true → (k < m → run m ≡ true → folded f (laneAt byteBits w i k) ≡ folded f (laneAt byteBits v j k))
-      → folded f (laneAt byteBits w i k) ≡ folded f (laneAt byteBits v j k)
-  run-last m k (inl e) h r = rw e (eqb-true _ _ (and-right (run m) (same m) h))
-  run-last m k (inr l) h r = r l (and-left (run m) (same m) h)
+  words-name : n ≤ nameLimit → ((k : ℕ) → k < 3 → wordOf k ≡ true) → agree f (nameAt w i n) (nameAt v j n) n ≡ true
+  words-name b h = each-agree f (nameAt w i n) (nameAt v j n) n each
+    where
+      each : (q : ℕ) → q < n → folded f (getD (nameAt w i n) q 0) ≡ folded f (getD (nameAt v j n) q 0)
+      each q l =
+          let k = q / 8 in
+          let p = q % 8 in
+          let e : 8 * k + p ≡ q = omega arith in
+          let m : p < min (n - 8 * k) 8 = omega arith in
+          let s = bytes-each f (cutWord n k (getD w (i + k) 0)) (cutWord n k (getD v (j + k) 0)) (h k (omega arith)) p (omega arith) in
+          let t = rw (cut-in (min (n - 8 * k) 8) (getD w (i + k) 0) p m, cut-in (min (n - 8 * k) 8) (getD v (j + k) 0) p m, ← lane-in w i k p (omega arith), ← lane-in v j k p (omega arith), e) at s in
+          rw (name-byte w i n q l, name-byte v j n q l) t
 
-  run-each : (m k : ℕ) → m ≤ n → k < m → run m ≡ true → folded f (laneAt byteBits w i k) ≡ folded f (laneAt byteBits v j k)
-  run-each zero k b l h = absurd (omega arith)
-  run-each (suc m) k b l h =
-      run-last m k (eq-or-lt-of-le (le-of-suc-le-suc l)) (sym (run-more m (omega arith)) ∙ h) (λ q g. run-each m k (omega arith) q g)
-
-  -- bytes that are the same agree
-  run-same : (m : ℕ) → m ≤ n → ((k : ℕ) → k < m → laneAt byteBits w i k ≡ laneAt byteBits v j k) → run m ≡ true
-  unfolding agree
-  run-same zero b h = refl
-  run-same (suc m) b h =
-      run-more m (omega arith)
-      ∙ rw (run-same m (omega arith) (λ k l. h k (omega arith)), eq-eqb (folded f (laneAt byteBits w i m)) (folded f (laneAt byteBits v j m)) (ap (folded f) (h m (omega arith))))
-
-  -- words of names that agree have the same low bits
-  run-lows : (q : ℕ) → run n ≡ true → bitAnd (getD w (i + q) 0) (lowsFrom n (8 * q)) ≡ bitAnd (getD v (j + q) 0) (lowsFrom n (8 * q))
-  run-lows q h =
-      lows-same (min (n - 8 * q) 8) (getD w (i + q) 0) (getD v (j + q) 0)
-      (λ p l.
-      let s = lane-low w i q p (omega arith) in
-      let t = lane-low v j q p (omega arith) in
-      sym s ∙ sym (low-five f _) ∙ ap (λ (z : ℕ). z % 32) (run-each n (8 * q + p) (omega arith) (omega arith) h) ∙ low-five f _ ∙ t)
-
--- where the byte before position k, as it was found in its words, agrees, those before it decide
-pub run-found : (f r x : Bool) (w v : List ℕ) (i n k a b : ℕ) → 0 < k → k ≤ n → a ≡ getD w (i + (k - 1) / 8) 0 → b ≡ getD v ((k - 1) / 8) 0
-    → r ≡ eqb (folded f (laneOf byteBits a ((k - 1) % 8))) (folded f (laneOf byteBits b ((k - 1) % 8))) → r ≡ x
-    → agree f (nameAt w i n) (nameAt v 0 n) k ≡ cond x (agree f (nameAt w i n) (nameAt v 0 n) (k - 1)) false
-unfolding laneAt
-run-found f r x w v i n k a b g l p q e h =
-    let z : 0 + (k - 1) / 8 ≡ (k - 1) / 8 = omega arith in
-    let j : k ≡ suc (k - 1) = omega arith in
-    ap (agree f (nameAt w i n) (nameAt v 0 n)) j ∙ run-more f w v i 0 n (k - 1) (omega arith)
-    ∙ ap (λ (t : Bool). agree f (nameAt w i n) (nameAt v 0 n) (k - 1) && t) (rw z (sym (rw (p, q) at e) ∙ h)) ∙ by x
-  where
-    by : (x : Bool) → (agree f (nameAt w i n) (nameAt v 0 n) (k - 1) && x) ≡ cond x (agree f (nameAt w i n) (nameAt v 0 n) (k - 1)) false
-    by true = and-yes (agree f (nameAt w i n) (nameAt v 0 n) (k - 1))
-    by false = and-no (agree f (nameAt w i n) (nameAt v 0 n) (k - 1)) false refl
-
--- three words that are the same
-pub words-same : (f : Bool) (w : List ℕ) (n : ℕ) (m : Name) → m .length ≤ nameLimit
-    → (eqb (rowWord w n 0) (m .first) && (eqb (rowWord w n 1) (m .second) && eqb (rowWord w n 2) (m .third))) ≡ true
-    → agree f (nameAt w (rowStart n) (m .length)) (bytesOf m) (m .length) ≡ true
-unfolding laneAt
-words-same f w n m h g =
-    let b = and-right (eqb (rowWord w n 0) (m .first)) _ g in
-    let x = eqb-true (rowWord w n 0) (m .first) (and-left _ _ g) in
-    let y = eqb-true (rowWord w n 1) (m .second) (and-left _ _ b) in
-    let z = eqb-true (rowWord w n 2) (m .third) (and-right (eqb (rowWord w n 1) (m .second)) _ b) in
-    let t = three (λ (k : ℕ). rowWord w n k ≡ getD (wordsOf m) (0 + k) 0) x y z in
-    run-same f w (wordsOf m) (rowStart n) 0 (m .length) (m .length) (omega arith) (λ k r. ap (λ (u : ℕ). laneOf byteBits u (k % 8)) (t (k / 8) (omega arith)))
+  -- the bytes of names agree where their three words do
+  pub name-by-words : setLength n ≡ true → agree f (nameAt w i n) (nameAt v j n) n ≡ (wordOf 2 && (wordOf 1 && wordOf 0))
+  name-by-words g =
+      same-test (agree f (nameAt w i n) (nameAt v j n) n) (wordOf 2 && (wordOf 1 && wordOf 0)) (λ h. rw (name-words h 2, name-words h 1, name-words h 0))
+      (λ h.
+      let t = and-right (wordOf 2) (wordOf 1 && wordOf 0) h in
+      words-name (set-most n g) (three (λ (k : ℕ). wordOf k ≡ true) (and-right (wordOf 1) (wordOf 0) t) (and-left (wordOf 1) (wordOf 0) t) (and-left (wordOf 2) (wordOf 1 && wordOf 0) h)))
 
 -- ---- A row and a name
 -- a row is set where its length is that of a name
@@ -194,15 +160,6 @@ module _ (w : List ℕ) (n : ℕ) (f : Bool) (m : Name) (l : n < accountLimit) (
   unfolding sameName
   named-bytes =
       rw (row-of w n l, row-set w n (rw e h), name-length, name-length, eq-eqb (lengthAt w n) (m .length) e, e)
-
-  -- low bits of a word that differ
-  pub lows-apart : (k : ℕ) → eqb (bitAnd (rowWord w n k) (lowsFrom (m .length) (8 * k))) (bitAnd (getD (wordsOf m) (0 + k) 0) (lowsFrom (m .length) (8 * k))) ≡ false
-      → hasName w n f (bytesOf m) ≡ false
-  lows-apart k d = named-bytes ∙ by (agree f (nameAt w (rowStart n) (m .length)) (bytesOf m) (m .length)) refl
-    where
-      by : (p : Bool) → agree f (nameAt w (rowStart n) (m .length)) (bytesOf m) (m .length) ≡ p → agree f (nameAt w (rowStart n) (m .length)) (bytesOf m) (m .length) ≡ false
-      by true g = absurd (false≢true (sym d ∙ eq-eqb _ _ (run-lows f w (wordsOf m) (rowStart n) 0 (m .length) k g)))
-      by false g = g
 
 -- ---- The search: found at i, or further on
 pub first-step : (w : List ℕ) (k i : ℕ) (s : List ℕ) → i < accountLimit

@@ -9,7 +9,7 @@ use crate::check::check_service;
 use crate::check::check_tgt;
 use crate::check::check_user;
 use crate::check::unless;
-use crate::name::find_name;
+use crate::name::find_packed;
 use crate::routes::is_permitted;
 use crate::tickets::direct_ticket;
 use crate::tickets::initial_ticket;
@@ -65,7 +65,7 @@ fn conclude(answer: Answer, ticket: Ticket) -> Decision
 fn find_named(words: &AccountWords, bytes: &[u8], span: Span) -> Named
     ensures { λ r. ⌜ r ≡ named (tableOf (now (words .entry))) (partOf (now (bytes .entry)) span) ⌝ }
 {
-    let number = find_name(words, name_in(bytes, span));
+    let number = find_packed(words, name_in(bytes, span));
     Named {
         number: number as Principal,
         account: account_at(words, number),

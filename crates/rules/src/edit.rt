@@ -43,9 +43,8 @@ fn keeps_name(words: &AccountWords, number: usize, name: Name) -> bool
     ensures { λ r. ⌜ ((f s p l : ℕ) → r ≡ keepsName (tableOf (now (words .entry))) (editOf number (bytesOf name) f s p l)) ⌝ }
 {
     let stored = length_at(words, number);
-    let length = name.length;
-    if stored != length {
-        return !set_length(stored);
+    if stored != name.length as u8 {
+        return !set_length(stored as usize);
     }
     same_name(words, number, false, name)
 }

@@ -1,122 +1,95 @@
-// Which account a name stands for (R2.6, R2.7). Names come as words.
+// Which account a name stands for (R2.6, R2.7, R2.11). Names are compared as words.
+use crate::letters::words_match;
 use crate::words::AccountWords;
 use crate::words::length_at;
 use crate::words::row_word;
 use definitions::ACCOUNT_LIMIT;
 use definitions::Name;
 use record::both;
+use record::pack_name;
 use record::set_length;
 ghost use mathlib.Core.Path.{_≡_};
 ghost use mathlib.Core.Bool.{true};
-ghost use Prim.Native.Nat.{_<_, _≤_, _*_};
-ghost use lib.Bits.{bitAnd};
-ghost use lib.Dec.{eqb};
-ghost use Rattle.definitions.specs.Limits.{accountLimit, nameLimit, byteBits};
+ghost use Prim.Native.Nat.{_*_, _<_, _≤_};
+ghost use Rattle.definitions.specs.Limits.{accountLimit};
 ghost use Rattle.definitions.specs.AccountWords.{rowStart, rowWord, nameAt, setLength, tableOf};
-ghost use Rattle.definitions.specs.Words.{laneOf};
-ghost use Rattle.definitions.specs.Names.{lower, folded, agree, findName, nameTaken};
-ghost use Rattle.rules.specs.NameSearch.{bytesOf, hasName, lowsFrom, firstFrom};
+ghost use Rattle.definitions.specs.Names.{agree, findName, nameTaken};
+ghost use Rattle.rules.specs.NameSearch.{bytesOf, hasName, wordsAgree, firstBytes, cutWord, firstFrom};
 
-// A capital letter as the small one, any other byte as itself.
-fn lower(c: u64) -> u64
-    ensures { λ r. ⌜ r ≡ lower c ⌝ }
+// Whether the bytes of two words agree, with letter case ignored or not.
+fn words_agree(ignore: bool, a: u64, b: u64) -> bool
+    ensures { λ r. ⌜ r ≡ wordsAgree ignore a b ⌝ }
 {
-    if both(0x41 <= c, c <= 0x5A) {
-        c + 32
-    } else {
-        c
-    }
+    if ignore { words_match(a, b) } else { a == b }
 }
 
-// Whether a byte is the same in two words, with letter case ignored or not. Most are as they stand.
-fn same_byte(ignore: bool, a: u64, b: u64, k: usize) -> bool
-    requires { ⌜ k < 8 ⌝ }
-    ensures { λ r. ⌜ r ≡ eqb (folded ignore (laneOf byteBits a k)) (folded ignore (laneOf byteBits b k)) ⌝ }
+// All bits of the first bytes of a word, as many as are counted, or of all eight.
+fn first_bytes(count: usize) -> u64
+    requires { ⌜ 0 < count ⌝ }
+    ensures { λ r. ⌜ r ≡ firstBytes count ⌝ }
 {
-    let shift = 8 * k;
-    let x = (a >> shift) % 256;
-    let y = (b >> shift) % 256;
-    if x == y {
-        return true;
+    if 8 <= count {
+        return 0xFFFFFFFFFFFFFFFF;
     }
-    both(ignore, lower(x) == lower(y))
+    0xFFFFFFFFFFFFFFFF >> (64 - 8 * count)
 }
 
-// Whether as many bytes of a row's words as a name has are the name's, from the last one on.
-fn same_bytes(words: &AccountWords, n: usize, ignore: bool, name: Name) -> bool
-    requires { ⌜ (n < accountLimit) × (name .length ≤ nameLimit) ⌝ }
-    ensures { λ r. ⌜ r ≡ agree ignore (nameAt (now (words .entry)) (rowStart n) (name .length)) (bytesOf name) (name .length) ⌝ }
+// Whether a word of a row agrees with that of a name of a length, of which some bytes lie in it, as far as the name goes.
+fn same_part(
+    words: &AccountWords,
+    n: usize,
+    k: usize,
+    ignore: bool,
+    word: u64,
+    length: usize,
+) -> bool
+    requires { ⌜ (n < accountLimit) × (k < 3) × (8 * k < length) ⌝ }
+    ensures { λ r. ⌜ r ≡ wordsAgree ignore (cutWord length k (rowWord (now (words .entry)) n k)) (cutWord length k word) ⌝ }
 {
-    let own = [name.first, name.second, name.third];
-    let mut i = name.length;
-    while 0 < i {
-        i -= 1;
-        if !same_byte(ignore, row_word(words, n, i / 8), own[i / 8], i % 8) {
-            return false;
-        }
-    }
-    true
+    let mask = first_bytes(length - 8 * k);
+    words_agree(ignore, row_word(words, n, k) & mask, word & mask)
 }
 
-// Whether a row whose length is that of a name has its bytes, with letter case ignored or not. Single bytes are looked at only where a word
-// differs.
-pub(crate) fn same_name(words: &AccountWords, n: usize, ignore: bool, name: Name) -> bool
-    requires { ⌜ (n < accountLimit) × (name .length ≤ nameLimit) ⌝ }
-    ensures { λ r. ⌜ r ≡ agree ignore (nameAt (now (words .entry)) (rowStart n) (name .length)) (bytesOf name) (name .length) ⌝ }
-{
-    let a = name.first;
-    let b = name.second;
-    let c = name.third;
-    let first = row_word(words, n, 0) == a;
-    let second = row_word(words, n, 1) == b;
-    let third = row_word(words, n, 2) == c;
-    if both(first, both(second, third)) {
-        return true;
-    }
-    same_bytes(words, n, ignore, name)
-}
-
-// The low five bits of each of eight bytes.
-const LOWS: u64 = 0x1F1F1F1F1F1F1F1F;
-
-// The low five bits of those bytes of the word from a position on that lie in a name of a length.
-fn lows_from(length: usize, from: usize) -> u64
-    ensures { λ r. ⌜ r ≡ lowsFrom length from ⌝ }
-{
-    if length <= from {
-        return 0;
-    }
-    if 8 <= length - from {
-        return LOWS;
-    }
-    LOWS >> (64 - 8 * (length - from))
-}
-
-// Whether a row's word may agree with a name's: the low five bits of each byte of the name, which letter case leaves alone, are the same.
-fn may_agree(words: &AccountWords, n: usize, k: usize, word: u64, length: usize) -> bool
+// The same of a name that may end before the word.
+fn same_word(
+    words: &AccountWords,
+    n: usize,
+    k: usize,
+    ignore: bool,
+    word: u64,
+    length: usize,
+) -> bool
     requires { ⌜ (n < accountLimit) × (k < 3) ⌝ }
-    ensures { λ r. ⌜ r ≡ eqb (bitAnd (rowWord (now (words .entry)) n k) (lowsFrom length (8 * k))) (bitAnd word (lowsFrom length (8 * k))) ⌝ }
+    ensures { λ r. ⌜ r ≡ wordsAgree ignore (cutWord length k (rowWord (now (words .entry)) n k)) (cutWord length k word) ⌝ }
 {
-    let mask = lows_from(length, 8 * k);
-    row_word(words, n, k) & mask == word & mask
+    if length <= 8 * k {
+        return true;
+    }
+    same_part(words, n, k, ignore, word, length)
 }
 
-// Whether a row is set and matches a name. Few that do not get past the length and the low bits.
+// Whether a row whose length is that of a name has its bytes, with letter case ignored or not. The last word comes first: names of one length mostly
+// differ at their end.
+pub(crate) fn same_name(words: &AccountWords, n: usize, ignore: bool, name: Name) -> bool
+    requires { ⌜ (n < accountLimit) × (setLength (name .length) ≡ true) ⌝ }
+    ensures { λ r. ⌜ r ≡ agree ignore (nameAt (now (words .entry)) (rowStart n) (name .length)) (bytesOf name) (name .length) ⌝ }
+{
+    let length = name.length;
+    if !same_word(words, n, 2, ignore, name.third, length) {
+        return false;
+    }
+    if !same_word(words, n, 1, ignore, name.second, length) {
+        return false;
+    }
+    same_part(words, n, 0, ignore, name.first, length)
+}
+
+// Whether a row is set and matches a name. Of most rows only the length is looked at.
 fn matches_name(words: &AccountWords, n: usize, name: Name) -> bool
     requires { ⌜ (n < accountLimit) × (setLength (name .length) ≡ true) ⌝ }
     ensures { λ r. ⌜ r ≡ hasName (now (words .entry)) n true (bytesOf name) ⌝ }
 {
-    let length = name.length;
-    if length_at(words, n) != length {
-        return false;
-    }
-    if !may_agree(words, n, 0, name.first, length) {
-        return false;
-    }
-    if !may_agree(words, n, 1, name.second, length) {
-        return false;
-    }
-    if !may_agree(words, n, 2, name.third, length) {
+    if length_at(words, n) != name.length as u8 {
         return false;
     }
     same_name(words, n, true, name)
@@ -138,8 +111,8 @@ fn first_match(words: &AccountWords, name: Name, except: usize) -> usize
     ACCOUNT_LIMIT
 }
 
-// The lowest account that is set and matches a name; one past the last where none does. A length that no name has is found nowhere.
-pub(crate) fn find_name(words: &AccountWords, name: Name) -> usize
+// The lowest account that is set and matches a name in words; one past the last where none does. A length that no name has is found nowhere.
+pub(crate) fn find_packed(words: &AccountWords, name: Name) -> usize
     ensures exact { λ r. ⌜ r ≡ findName (tableOf (now (words .entry))) (bytesOf name) ⌝ }
     ensures bounded { λ r. ⌜ r ≤ accountLimit ⌝ }
 {
@@ -147,6 +120,14 @@ pub(crate) fn find_name(words: &AccountWords, name: Name) -> usize
         return ACCOUNT_LIMIT;
     }
     first_match(words, name, ACCOUNT_LIMIT)
+}
+
+// The account that a name stands for, one past the last where it is unknown.
+pub fn find_name(words: &AccountWords, bytes: &[u8]) -> usize
+    ensures exact { λ r. ⌜ r ≡ findName (tableOf (now (words .entry))) (now (bytes .entry)) ⌝ }
+    ensures bounded { λ r. ⌜ r ≤ accountLimit ⌝ }
+{
+    find_packed(words, pack_name(bytes))
 }
 
 // Whether another account than a given one is set and matches a name.

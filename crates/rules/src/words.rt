@@ -49,11 +49,11 @@ pub(crate) fn row_word(words: &AccountWords, n: usize, k: usize) -> u64
 }
 
 // The stored length of a row's name.
-pub(crate) fn length_at(words: &AccountWords, n: usize) -> usize
+pub(crate) fn length_at(words: &AccountWords, n: usize) -> u8
     requires { ⌜ n < accountLimit ⌝ }
     ensures { λ r. ⌜ r ≡ lengthAt (now (words .entry)) n ⌝ }
 {
-    (row_word(words, n, DETAIL_WORD) % TWO_8) as usize
+    (row_word(words, n, DETAIL_WORD) % TWO_8) as u8
 }
 
 // The account of a number, one never set where there is no such row (R2.4).

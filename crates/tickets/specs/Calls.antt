@@ -2,6 +2,7 @@
 -- Assumes nothing.
 use Prim.Native.Nat.{ℕ}
 use mathlib.Core.Path.{_≡_}
+use mathlib.Core.Bool.{Bool, cond}
 use mathlib.Core.List.{List, [], _∷_}
 use lib.ListN.{length}
 use Rattle.definitions.specs.Errors.{errorNumber, answerNumber}
@@ -52,6 +53,11 @@ outputRead (Refused error) ticket output = output
 -- the output after that call
 abbrev pub rewriteOutput : Reading → List ℕ → List ℕ
 rewriteOutput reading output = outputRead (reading .answer) (reading .ticket) output
+
+-- ---- Two words, compared
+-- R2.12: 1 where they match, 0 where they do not
+abbrev pub matchNumber : Bool → ℕ
+matchNumber matched = cond matched 1 0
 
 -- ---- A request, read
 -- R4.2: the number of each kind

@@ -1,5 +1,4 @@
-// The C interface (include/tickets.h): the calls of the ledger, and the record layer's readers and writer, exported for tests of the compiled
-// library.
+// The C interface (include/tickets.h): the calls of the service, the record layer's readers and writer, and the comparison of two words of names.
 // Only numbers, words and slices of bytes cross the border. A function takes any words, any bytes and any output.
 use definitions::Answer;
 use definitions::Descended;
@@ -16,12 +15,14 @@ ghost use Rattle.definitions.specs.Limits.{longestRecord};
 ghost use Rattle.definitions.specs.Errors.{answerNumber};
 ghost use Rattle.definitions.specs.TicketRecords.{readTicket};
 ghost use Rattle.definitions.specs.Requests.{readRequest};
+ghost use Rattle.definitions.specs.AccountWords.{tableOf};
+ghost use Rattle.definitions.specs.Names.{wordsMatch, findName};
 ghost use Rattle.definitions.specs.Edits.{editOf};
 ghost use Rattle.definitions.specs.LedgerWords.{ticketsOf};
 ghost use Rattle.definitions.specs.Totals.{dayTotal};
 ghost use Rattle.definitions.specs.Descent.{descent, descended};
 ghost use Rattle.definitions.specs.Services.{freshService};
-ghost use Rattle.tickets.specs.Calls.{errorAnswer, writtenAnswer, rewriteAnswer, rewriteOutput, kindNumber, requestFields, fieldsAfter, EditCall, RequestCall, ClearCall, descentAnswer};
+ghost use Rattle.tickets.specs.Calls.{errorAnswer, writtenAnswer, rewriteAnswer, rewriteOutput, matchNumber, kindNumber, requestFields, fieldsAfter, EditCall, RequestCall, ClearCall, descentAnswer};
 
 // What a call answers: the error number, 0 where there is none, and a value, 0 beside an error.
 #[repr(C)]
@@ -127,6 +128,14 @@ pub extern "C" fn tickets_read_request(bytes: &[u8], fields: &mut RequestFields)
     }
 }
 
+// Whether all eight pairs of bytes of two words match: 1, or 0.
+#[no_mangle]
+pub extern "C" fn tickets_words_match(a: u64, b: u64) -> u32
+    ensures { λ r. ⌜ r ≡ matchNumber (wordsMatch a b) ⌝ }
+{
+    if rules::words_match(a, b) { 1 } else { 0 }
+}
+
 // ---- The service's calls.
 
 // A fresh service, with no account set and no ticket held.
@@ -151,6 +160,14 @@ pub extern "C" fn tickets_edit(
     ensures { λ r. ⌜ EditCall (now (accounts .entry)) (editOf number (now (name .entry)) flags send receive lifetime) r (now (accounts .exit)) ⌝ }
 {
     record::answer_number(ledger::edit(accounts, number, name, flags, send, receive, lifetime))
+}
+
+// The number of the account that a name stands for, 64 where it is unknown.
+#[no_mangle]
+pub extern "C" fn tickets_find_name(accounts: &AccountWords, name: &[u8]) -> u32
+    ensures { λ r. ⌜ r ≡ findName (tableOf (now (accounts .entry))) (now (name .entry)) ⌝ }
+{
+    rules::find_name(accounts, name) as u32
 }
 
 // Answers a request: the length of the record at the output's start, or the refusal's number.

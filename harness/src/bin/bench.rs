@@ -1,5 +1,6 @@
 //! Times the compiled library and the second implementation on the same calls, and counts their
-//! instructions (docs/PERFORMANCE.md).
+//! instructions (docs/PERFORMANCE.md). Where names are found alone, a plain matcher over the same words
+//! stands in for the second implementation.
 //!
 //! `bench write FILE` writes the rows of all cases to a file of Markdown, docs/BENCHMARK.md, and prints
 //! a summary. `bench instructions` prints the rows without times. `bench repeat SIDE CASE CALLS` makes

@@ -21,6 +21,12 @@ const NAMES: [&str; 16] = [
     "e_",
 ];
 
+/// The last account.
+const LAST_ACCOUNT: Principal = ACCOUNT_LIMIT as Principal - 1;
+
+/// One call in so many is a find.
+const FINDS: usize = 16;
+
 /// The kinds of requests, each as often as it is asked for.
 const KINDS: [u8; 12] = [1, 1, 2, 2, 3, 3, 4, 4, 4, 4, 4, 4];
 
@@ -46,7 +52,7 @@ const REMEMBERED: usize = 64;
 struct Style {
     /// The accounts in use are those below this number.
     accounts: usize,
-    /// One call in so many is an edit.
+    /// One of the calls that are no finds in so many is an edit.
     edits: usize,
     /// One of the others in so many is a clearing.
     clearings: usize,
@@ -142,7 +148,9 @@ impl Generator {
     /// Makes so many calls more.
     fn go_on(&mut self, calls: usize) {
         for _ in 0..calls {
-            let call = if self.random.once_in(self.style.edits) {
+            let call = if self.random.once_in(FINDS) {
+                self.find()
+            } else if self.random.once_in(self.style.edits) {
                 self.edit()
             } else if self.random.once_in(self.style.clearings) {
                 self.clearing()
@@ -164,6 +172,7 @@ impl Generator {
                 // So it is with a request.
                 let _ = self.service.request(request, *clock, &mut [0; LONGEST_OUTPUT][..*output]);
             }
+            Call::Find { .. } => {}
             Call::Clear { clock } => self.clear(*clock),
         }
         self.calls.push(call);
@@ -249,6 +258,18 @@ impl Generator {
         let end = ends[self.random.pick(&[0, 0, 0, 0, any / 8])];
         let (before, after) = (end.saturating_sub(1), end.saturating_add(1));
         self.random.pick(&[before, before, end, end, after, self.now])
+    }
+
+    // ---- Finds.
+
+    /// A find of an account's name, its letters in some case, often the first or the last account's;
+    /// half the time of a name made of that one.
+    fn find(&mut self) -> Call {
+        let some = self.number();
+        let number = self.random.pick(&[0, some, some, some, LAST_ACCOUNT]);
+        let name = self.name_of(number);
+        let near = self.random.once_in(2);
+        Call::Find { name: if near { odd::near_name(&mut self.random, name) } else { name } }
     }
 
     // ---- Edits.

@@ -86,13 +86,16 @@ fn each(words: &mut library::Service, mut change: impl FnMut(&mut u64)) {
     words.accounts.iter_mut().chain(&mut words.ledger).for_each(&mut change);
 }
 
-/// Accounts with short names of few letters, some of them the same, and tickets whose parts are
-/// small numbers, but for times, which are near now.
+/// Accounts with names of few letters, mostly short and some of them the same, and bytes behind them;
+/// and tickets whose parts are small numbers, but for times, which are near now.
 fn plausible(random: &mut Random, now: u32, words: &mut library::Service) {
     for row in words.accounts[row_at(0)..].chunks_exact_mut(ROW_SIZE) {
-        let name: Vec<u8> = (0..8).map(|_| random.pick(b"abAB[{@\x00\xE1")).collect();
-        row[0] = u64::from_le_bytes(name.try_into().expect("eight bytes"));
-        let length = random.pick(&[0, 1, 2, 3, 4, 5, 6, 7, 8, NAME, NAME + 1, u8::MAX]);
+        let words = random.pick(&[1, 1, 3]);
+        for word in &mut row[..words] {
+            *word = u64::from_le_bytes([(); 8].map(|()| random.pick(b"abAB[{@\x00\xE1")));
+        }
+        let lengths = [0, 1, 2, 3, 4, 5, 6, 7, 8, 9, 16, 17, NAME, NAME + 1, u8::MAX];
+        let length = random.pick(&lengths);
         let flags = random.pick(&[8, 8, 12, 12, 10, 9, 0, 0xF8]);
         let spare = if random.once_in(4) { random.word() & 0xFFFF_0000 } else { 0 };
         row[3] = u64::from(length) | flags << 8 | spare | random.pick(&[0, 100, 36_000]) << 32;

@@ -19,7 +19,7 @@ const LONGEST_COUNTED: usize = u8::MAX as usize;
 /// R2.5: a good name.
 pub fn good_name(random: &mut Random) -> Vec<u8> {
     let some = 1 + random.below(NAME_LIMIT);
-    let length = random.pick(&[1, 2, 8, 9, 16, 17, NAME_LIMIT - 1, NAME_LIMIT, some]);
+    let length = random.pick(&[1, 2, 7, 8, 9, 16, 17, NAME_LIMIT - 1, NAME_LIMIT, some]);
     let byte = |random: &mut Random| match 0x21 + random.below(0x5E) as u8 {
         0x40 => b'A',
         byte => byte,
@@ -54,6 +54,28 @@ pub fn name(random: &mut Random, mut name: Vec<u8>) -> Vec<u8> {
         _ => name = good_name(random),
     }
     name.truncate(LONGEST_COUNTED);
+    name
+}
+
+/// A name to find that mostly matches nobody, made of this one: its last byte is another, a byte that
+/// is no letter has the bit of the letter case changed, a byte more stands behind it or so many that a
+/// length byte would count the same, or it is odd in one of the ways above.
+pub fn near_name(random: &mut Random, mut name: Vec<u8>) -> Vec<u8> {
+    let length = name.len();
+    match random.below(8) {
+        0 | 1 => flip(random, &mut name[length.saturating_sub(1)..], &[0x01, 0x10, 0x40, 0x80]),
+        2 | 3 => {
+            let mut others = name.iter_mut().filter(|byte| !byte.is_ascii_alphabetic());
+            if let Some(byte) = others.nth(random.below(1 + length / 4)) {
+                *byte ^= 0x20;
+            }
+        }
+        4 => {
+            let more = random.pick(&[1, LONGEST_COUNTED + 1]);
+            name.extend(random.bytes(more));
+        }
+        _ => name = self::name(random, name),
+    }
     name
 }
 

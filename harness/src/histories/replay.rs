@@ -1,12 +1,14 @@
 //! Replays a history on the compiled library and on the second implementation, and compares them.
 
 use super::draft::TicketText;
+use super::finds::Find;
 use super::tally::Met;
 use super::{edit_of, generate, shrink, Call, Hex, History, Tally};
 use crate::accounts::{Edit, Table};
 use crate::book::{self, Book};
 use crate::calls::{self, Answer};
 use crate::library;
+use crate::matcher;
 use crate::past::Past;
 use crate::random::Random;
 use crate::record::{read_ticket, Principal, Ticket};
@@ -45,7 +47,7 @@ pub struct Pair {
 
 /// What a call did.
 pub struct Outcome {
-    /// The error number, 0 for a grant, a stored edit or a clearing.
+    /// The error number, 0 for a grant, a stored edit, a find or a clearing.
     pub error: u32,
     /// The ticket that was granted.
     pub granted: Option<Ticket>,
@@ -131,6 +133,7 @@ impl Pair {
     pub fn step(&mut self, call: &Call, tally: &mut Tally) -> Result<Outcome, String> {
         let outcome = match call {
             Call::Edit { .. } => self.edit(&edit_of(call).expect("an edit"), tally)?,
+            Call::Find { name } => self.find(name, tally)?,
             Call::Request { request, clock, output } => {
                 let outcome = self.request(request, *clock, *output)?;
                 let met = Met { past: &self.past, freed: self.freed, book: self.book.as_ref() };
@@ -156,6 +159,17 @@ impl Pair {
         }
         tally.edited(edit, known, error);
         Ok(Outcome { error, granted: None })
+    }
+
+    /// Finds a name on both sides, and by the plain matcher.
+    fn find(&self, name: &[u8], tally: &mut Tally) -> Result<Outcome, String> {
+        let found = self.library.find_name(name);
+        same("the account found", found, calls::find_name(&self.second, name))?;
+        let plain = matcher::find_name(&self.words.accounts, name);
+        same("the account found by the plain matcher", found, plain)?;
+        let find = Find { accounts: &self.words.accounts, table: &self.second.table, name };
+        tally.finds(&find, found);
+        Ok(Outcome { error: 0, granted: None })
     }
 
     /// Makes a request on both sides, each with an output among the same random bytes.

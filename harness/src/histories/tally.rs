@@ -1,10 +1,12 @@
-//! How often each answer was reached, by the check that gave it (R6.2, R2.9), each kind of grant, and
-//! each kind of clearing (R7.6).
+//! How often each answer was reached, by the check that gave it (R6.2, R2.9), each kind of grant, each
+//! kind of clearing (R7.6), and each kind of find (R2.11).
 
 use super::draft::presented;
+use super::finds::{Find, APART, FOUND, LENGTHS, NOT_FOUND};
 use super::History;
 use crate::accounts::{Edit, Table, ALL_FLAGS};
 use crate::book::Book;
+use crate::calls::NO_ACCOUNT;
 use crate::decisions::{
     classic_route, has_cname_in_addl_tkt, has_ended, is_forwardable, is_too_early, resource_route,
 };
@@ -33,6 +35,10 @@ const EARLY: &[&str] = &[
 /// What has to be reached, in groups; nothing else may be.
 const EXPECTED: &[(&str, &[&str])] = &[
     ("edits", &["new", "again", "60 number", "60 name", "60 flags", "12", "8"]),
+    ("found", FOUND),
+    ("found, bytes", LENGTHS),
+    ("not found", NOT_FOUND),
+    ("0x20 apart", APART),
     ("unreadable 60", &["short", "kind", "map", "missing", "left over", "ticket"]),
     ("output", &["52"]),
     ("TGT", &["41 not held", "41 unequal", "35 not initial", "33", "32", "18"]),
@@ -77,7 +83,7 @@ const EXPECTED: &[(&str, &[&str])] = &[
 const LEAST: u64 = 100;
 
 /// What no call may be counted as: it is in no group.
-const NEVER: &str = "unexpected";
+pub(super) const NEVER: &str = "unexpected";
 
 /// All that has to be reached, each with its group.
 fn expected() -> impl Iterator<Item = (&'static str, &'static str)> {
@@ -97,7 +103,7 @@ pub(super) struct Met<'a> {
 /// The counts.
 #[derive(Default)]
 pub struct Tally {
-    /// Edits, requests and clearings.
+    /// Edits, finds, requests and clearings.
     pub calls: u64,
     /// Grants and stored edits among them.
     pub granted: u64,
@@ -181,6 +187,18 @@ impl Tally {
             _ => NEVER,
         };
         self.add("edits", name);
+    }
+
+    /// A find was answered with this number.
+    pub(super) fn finds(&mut self, find: &Find, number: u32) {
+        self.calls += 1;
+        if number == NO_ACCOUNT {
+            find.not_found().for_each(|name| self.add("not found", name));
+            find.apart().for_each(|name| self.add("0x20 apart", name));
+        } else {
+            find.found(number).for_each(|name| self.add("found", name));
+            find.length().for_each(|name| self.add("found, bytes", name));
+        }
     }
 
     /// A clearing was answered: how many of these tickets it took out, where this count was stored.
@@ -390,7 +408,9 @@ fn unreadable(request: &[u8]) -> &'static str {
 }
 
 /// The names of the conditions that hold.
-fn holding<const N: usize>(names: [(bool, &'static str); N]) -> impl Iterator<Item = &'static str> {
+pub(super) fn holding<const N: usize>(
+    names: [(bool, &'static str); N],
+) -> impl Iterator<Item = &'static str> {
     names.into_iter().filter_map(|(holds, name)| holds.then_some(name))
 }
 

@@ -1,10 +1,11 @@
 //! The cases: each a state, a call, and the error number that it has to give.
 
-use crate::scenes::{self, other_client, other_number, Scene, END, FIRST, NOW, UNKNOWN};
+use crate::scenes::{self, other_client, other_number, Alike, Scene, END, FIRST, NOW, UNKNOWN};
 use crate::sides::{make, Call, Changes, Output, Side};
 use crate::stage::{Names, Pair, Size};
 use harness::accounts::{Edit, BARRED, DISABLED};
-use harness::limits::{ACCOUNT_LIMIT, LONGEST_RECORD, TICKET_LIMIT};
+use harness::calls::NO_ACCOUNT;
+use harness::limits::{ACCOUNT_LIMIT, LONGEST_RECORD, NAME_LIMIT, TICKET_LIMIT};
 use harness::samples::{counted, w1, w3_with, TICKET_0, TICKET_1, TICKET_2};
 use harness::words;
 
@@ -49,6 +50,20 @@ const OF_FULL: &[&str] = &[
     "day total",
 ];
 
+/// What the summary shows of the names found alone.
+const OF_FINDS: &[&str] = &[
+    "find, 24 bytes, the last row",
+    "find, 24 bytes, the last row, in capitals",
+    "find, 24 bytes, none",
+];
+
+/// The lengths of the names that are found alone.
+const LENGTHS: [usize; 5] = [1, 7, 8, 9, NAME_LIMIT];
+
+/// Two words of eight letters that match, each letter by its case (R2.12).
+const CAPITALS: u64 = u64::from_le_bytes(*b"RECORDER");
+const SMALL: u64 = u64::from_le_bytes(*b"recorder");
+
 /// The clearings.
 const CLEARINGS: &[&str] =
     &["clear, none of 512 ended", "clear, half of 512 ended", "clear, all of 512 ended"];
@@ -63,7 +78,7 @@ const BAD_NAME: &[u8] = b"orders-d@";
 pub fn groups() -> Vec<Group> {
     let empty = Size { names: Names::Clinic, full: false, tickets: 0 };
     let full = Size { full: true, tickets: TICKET_LIMIT - 1, ..empty };
-    let ends = Size { names: Names::Ends, ..full };
+    let ends = Size { names: Names::Ends(NAME_LIMIT), ..full };
     let fronts = Size { names: Names::Fronts, ..full };
     let brim = Size { tickets: TICKET_LIMIT, ..full };
     let service = |size| {
@@ -74,12 +89,17 @@ pub fn groups() -> Vec<Group> {
     };
     let proxy = &["kind 4, S4U2proxy, classic route"];
     let held = format!("{ACCOUNT_LIMIT} accounts, {} tickets", full.tickets);
+    let found = format!(
+        "Names found alone, {ACCOUNT_LIMIT} of one length that differ in the last byte \
+         (second: plain byte-by-byte matcher over the same words)"
+    );
     vec![
         group("Records and requests alone", &["request W3, 52 bytes"], record_layer(empty)),
         group("As few accounts and tickets as the call needs", proxy, service(empty)),
         group(&held, OF_FULL, service(full)),
-        group("The same, names that differ at the end", proxy, alike(ends)),
-        group("The same, names that differ at the front", &[], alike(fronts)),
+        group("The same, names of 24 bytes that differ in the last", proxy, alike(ends)),
+        group("The same, names of 24 bytes that differ in the first", &[], alike(fronts)),
+        group(&found, OF_FINDS, finds()),
         group("A full ledger cleared", CLEARINGS, clearings(brim)),
     ]
 }
@@ -228,6 +248,31 @@ fn alike(size: Size) -> Vec<Case> {
         done("kind 4, S4U2proxy, classic route", scenes::classic(size).call()),
         done("kind 4, S4U2proxy, resource route", scenes::resource(size).call()),
         done("edit, the row as it was", (initial.stage.pair, Call::Edit(kept))),
+    ]
+}
+
+/// The finds among names of each length, one of a length that no row has, and two words.
+fn finds() -> Vec<Case> {
+    let table = Alike::new(NAME_LIMIT);
+    let shorter = table.find(&table.last()[..NAME_LIMIT - 1], NO_ACCOUNT);
+    let words = (table.pair, Call::WordsMatch(CAPITALS, SMALL));
+    let others = [
+        done("find, 23 bytes, all rows have 24", shorter),
+        done("two words that match by letter case", words),
+    ];
+    LENGTHS.into_iter().flat_map(finds_of).chain(others).collect()
+}
+
+/// The finds among names of this length: the last row's, the same in capitals, and one that no row has.
+fn finds_of(length: usize) -> [Case; 3] {
+    let table = Alike::new(length);
+    let (last, number) = (table.last(), ACCOUNT_LIMIT as u32 - 1);
+    let bytes = if length == 1 { "byte" } else { "bytes" };
+    let name = |what: &str| format!("find, {length} {bytes}, {what}");
+    [
+        done(&name("the last row"), table.find(&last, number)),
+        done(&name("the last row, in capitals"), table.find(&last.to_ascii_uppercase(), number)),
+        done(&name("none"), table.find(&table.other(), NO_ACCOUNT)),
     ]
 }
 

@@ -1,10 +1,11 @@
 //! Scenes: a state and a request to be made there, for each kind of grant and each refusal.
 
 use crate::sides::Call;
-use crate::stage::{Asked, Pair, Size, Stage, LIFETIME, START};
+use crate::stage::{Asked, Names, Pair, Size, Stage, LIFETIME, OTHER, START};
 use harness::accounts::{SERVICE, TRUSTED};
+use harness::calls;
 use harness::decisions::RESOURCE_BASED;
-use harness::limits::{CLOCK_SKEW, LONGEST_RECORD, TRAIL_LIMIT};
+use harness::limits::{ACCOUNT_LIMIT, CLOCK_SKEW, LONGEST_RECORD, TRAIL_LIMIT};
 
 /// The clock reading of most requests.
 pub const NOW: u32 = START + 100;
@@ -236,6 +237,42 @@ pub fn clearing(size: Size, has_ended: fn(usize) -> bool) -> (Pair, Call) {
         stage.grant(&asked, START);
     }
     (stage.pair, Call::Clear(NOW))
+}
+
+/// A full table of names of one length that differ in the last byte alone.
+pub struct Alike {
+    names: Names,
+    /// The state.
+    pub pair: Pair,
+}
+
+impl Alike {
+    /// The table of names of this length.
+    pub fn new(length: usize) -> Alike {
+        let names = Names::Ends(length);
+        let size = Size { names, full: true, tickets: 0 };
+        Alike { names, pair: Stage::new(size, 0).pair }
+    }
+
+    /// The name of the last account.
+    pub fn last(&self) -> Vec<u8> {
+        self.names.of(ACCOUNT_LIMIT - 1).to_vec()
+    }
+
+    /// A name that no account has, though all have its bytes but the last.
+    pub fn other(&self) -> Vec<u8> {
+        let mut name = self.last();
+        *name.last_mut().expect("a name has a byte") = OTHER;
+        name
+    }
+
+    /// The find of a name there, which has to have this answer.
+    pub fn find(&self, name: &[u8], answer: u32) -> (Pair, Call) {
+        let pair = self.pair.copy();
+        assert_eq!(calls::find_name(&pair.second, name), answer, "{}", name.escape_ascii());
+        let accounts = Box::new(pair.library.accounts);
+        (pair, Call::FindName { accounts, name: name.to_vec() })
+    }
 }
 
 /// No accounts and no tickets of its own, for a request that is refused whatever they are.

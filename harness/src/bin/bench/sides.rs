@@ -5,9 +5,10 @@ use harness::calls::{self, Answer, RequestFields};
 use harness::limits::{ACCOUNT_LIMIT, LONGEST_RECORD, PLACE_SIZE, ROW_WORDS, TICKET_LIMIT};
 use harness::record::{Origin, Ticket, NO_TRAIL};
 use harness::words::{
-    count_held, number_at, place_at, place_words, row_at, LedgerWords, COUNT_AT, NEXT_AT,
+    count_held, number_at, place_at, place_words, row_at, AccountWords, LedgerWords, COUNT_AT,
+    NEXT_AT,
 };
-use harness::{library, service};
+use harness::{library, matcher, service};
 use std::hint::black_box;
 
 /// One of the two implementations, with its state.
@@ -32,6 +33,12 @@ pub trait Side {
 
     /// `tickets_day_total`.
     fn day_total(&self) -> u64;
+
+    /// `tickets_find_name`; of the second implementation the plain matcher's, over the same words.
+    fn find_name(accounts: &AccountWords, name: &[u8]) -> u32;
+
+    /// `tickets_words_match`.
+    fn words_match(a: u64, b: u64) -> u32;
 
     /// `tickets_rewrite`.
     fn rewrite(record: &[u8], output: &mut [u8]) -> Answer;
@@ -117,6 +124,14 @@ impl Side for library::Service {
         library::Service::day_total(self)
     }
 
+    fn find_name(accounts: &AccountWords, name: &[u8]) -> u32 {
+        library::find_name(accounts, name)
+    }
+
+    fn words_match(a: u64, b: u64) -> u32 {
+        library::words_match(a, b)
+    }
+
     fn rewrite(record: &[u8], output: &mut [u8]) -> Answer {
         library::rewrite(record, output)
     }
@@ -183,6 +198,14 @@ impl Side for service::Service {
         service::Service::day_total(self)
     }
 
+    fn find_name(accounts: &AccountWords, name: &[u8]) -> u32 {
+        matcher::find_name(accounts, name)
+    }
+
+    fn words_match(a: u64, b: u64) -> u32 {
+        calls::words_match(a, b)
+    }
+
     fn rewrite(record: &[u8], output: &mut [u8]) -> Answer {
         calls::rewrite(record, output)
     }
@@ -229,6 +252,10 @@ pub enum Call {
     Descent(u32),
     /// `tickets_day_total`.
     DayTotal,
+    /// `tickets_find_name` in these words.
+    FindName { accounts: Box<AccountWords>, name: Vec<u8> },
+    /// `tickets_words_match` of two words.
+    WordsMatch(u64, u64),
     /// `tickets_rewrite` of a record.
     Rewrite(Vec<u8>),
     /// `tickets_read_request` of a request.
@@ -255,7 +282,8 @@ impl Call {
 pub struct Said {
     /// The error number.
     pub error: u32,
-    /// The value, the day total, or how many tickets were taken out.
+    /// The value, the account found, whether words match, the day total, or how many tickets were taken
+    /// out.
     pub value: u64,
 }
 
@@ -296,6 +324,10 @@ pub fn make<S: Side>(side: &mut S, call: &Call, output: &mut Output) -> Said {
         Call::Clear(clock) => Said { error: 0, value: side.clear(*clock).into() },
         Call::Descent(number) => side.descent(*number).into(),
         Call::DayTotal => Said { error: 0, value: side.day_total() },
+        Call::FindName { accounts, name } => {
+            Said { error: 0, value: S::find_name(accounts, name).into() }
+        }
+        Call::WordsMatch(a, b) => Said { error: 0, value: S::words_match(*a, *b).into() },
         Call::Rewrite(record) => S::rewrite(record, &mut output.record).into(),
         Call::ReadRequest(request) => {
             Said { error: S::read_request(request, &mut output.fields), value: 0 }

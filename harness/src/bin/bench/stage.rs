@@ -3,7 +3,7 @@
 use crate::sides::{Output, Side};
 use harness::accounts::{Edit, SERVICE};
 use harness::decisions::{CNAME_IN_ADDL_TKT, FORWARDABLE};
-use harness::limits::{ACCOUNT_LIMIT, TICKET_LIMIT};
+use harness::limits::{ACCOUNT_LIMIT, NAME_LIMIT, TICKET_LIMIT};
 use harness::samples::counted;
 use harness::{library, service, words};
 
@@ -29,19 +29,25 @@ static CLINIC: [&str; ACCOUNT_LIMIT] = [
     "web-portal", "web-mobile", "file-store", "image-store", "record-store", "lab-store", "notes-db", "orders-db",
 ];
 
-/// Names of one length that differ in their last two bytes alone.
-static ENDS: [[u8; 16]; ACCOUNT_LIMIT] = numbered(*b"recorder-ward-00", 14);
+/// R2.5: bytes that good names may have, and of which no two match; the last are letters.
+const DIFFERING: &[u8; ACCOUNT_LIMIT] =
+    b"{!\"#$%&'()*+,-./0123456789:;<=>?[\\]^_`abcdefghijklmnopqrstuvwxyz";
 
-/// Names of one length that differ in their first two bytes alone.
-static FRONTS: [[u8; 16]; ACCOUNT_LIMIT] = numbered(*b"00-recorder-ward", 0);
+/// A byte that matches none of those.
+pub const OTHER: u8 = b'~';
 
-/// A name for each number, which has its two digits at a place of the name.
-const fn numbered(name: [u8; 16], at: usize) -> [[u8; 16]; ACCOUNT_LIMIT] {
-    let mut names = [name; ACCOUNT_LIMIT];
+/// Names of the most bytes that differ in the last one alone.
+static ENDS: [[u8; NAME_LIMIT]; ACCOUNT_LIMIT] = differing(NAME_LIMIT - 1);
+
+/// Names of the most bytes that differ in the first one alone.
+static FRONTS: [[u8; NAME_LIMIT]; ACCOUNT_LIMIT] = differing(0);
+
+/// A name for each number, which has a byte of its own at a place of the name.
+const fn differing(at: usize) -> [[u8; NAME_LIMIT]; ACCOUNT_LIMIT] {
+    let mut names = [*b"recorder-ward-cardiology"; ACCOUNT_LIMIT];
     let mut number = 0;
     while number < ACCOUNT_LIMIT {
-        names[number][at] += (number / 10) as u8;
-        names[number][at + 1] += (number % 10) as u8;
+        names[number][at] = DIFFERING[number];
         number += 1;
     }
     names
@@ -52,18 +58,18 @@ const fn numbered(name: [u8; 16], at: usize) -> [[u8; 16]; ACCOUNT_LIMIT] {
 pub enum Names {
     /// Those of a clinic.
     Clinic,
-    /// `recorder-ward-00` to `recorder-ward-63`.
-    Ends,
-    /// `00-recorder-ward` to `63-recorder-ward`.
+    /// Names of this length that differ in the last byte alone.
+    Ends(usize),
+    /// Names of 24 bytes that differ in the first one alone.
     Fronts,
 }
 
 impl Names {
     /// The name of an account.
-    fn of(self, number: usize) -> &'static [u8] {
+    pub fn of(self, number: usize) -> &'static [u8] {
         match self {
             Names::Clinic => CLINIC[number].as_bytes(),
-            Names::Ends => &ENDS[number],
+            Names::Ends(length) => &ENDS[number][NAME_LIMIT - length..],
             Names::Fronts => &FRONTS[number],
         }
     }

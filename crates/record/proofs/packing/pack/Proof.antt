@@ -1,55 +1,43 @@
-use Prim.Native.Nat.{_+_, _*_, _^_, _≤_, _<_, _-_}
-use mathlib.Core.Path.{_≡_, refl}
+use mathlib.Core.Path.{_≡_, refl, _∙_}
+use mathlib.Core.List.{List}
+use Prim.Native.Nat.{ℕ, _+_, _-_, _*_, _/_, _^_, _≤_, _<_}
 use native.Mathlib.Omega.{arith}
+use lib.ListN.{length}
 use denote.Ref.{now}
 use Rattle.definitions.specs.Limits.{byteBits}
+use Rattle.definitions.specs.Fields.{Bytes}
 use Rattle.definitions.specs.Words.{packAt}
-use Rattle.definitions.proofs.Words.{pack-fits, pack-past, pack-room, pack-step}
+use Rattle.definitions.proofs.Words.{pack-past, pack-rest, pack-shift}
 use borrow.Author.Needs.{needs}
 use Rattle.record.proofs.packing.pack.Statement.{statement}
 use Rattle.record.proofs.packing.pack.Tie as tie
 
-abbrev Inv-loop : tie.InvT-loop
-Inv-loop bytes from word₀ i₀ word i = (i ≤ 8) × (word ≡ packAt byteBits bytes (from + i) (8 - i)) × (word < 256 ^ (8 - i))
+-- the bytes from a position on, out of the last eight
+tail : (s : List ℕ) → Bytes s → (from n : ℕ) → n ≡ length s - from → from < length s → n < 8 → 8 ≤ length s
+    → packAt byteBits s (length s - 8) 8 / 2 ^ (64 - 8 * n) ≡ packAt byteBits s from 8
+tail s b from n e h l m =
+    let k : 64 - 8 * n ≡ 8 * (8 - n) = omega arith in
+    let t : 8 - n + n ≡ 8 = omega arith in
+    let i : length s - 8 + (8 - n) ≡ from = omega arith in
+    rw k (rw (t, i) at (pack-shift s b (length s - 8) (8 - n) n)) ∙ pack-rest byteBits s from n 8 (omega arith) (omega arith)
 
-abbrev μ-loop : tie.MeasureT-loop
-μ-loop bytes from word₀ i₀ word i = i
-
-returns : tie.Need-returns Inv-loop μ-loop
+returns : tie.Need-returns
 returns c = let a = c .before .before .args in pack-past byteBits (now (a .bytes)) (a .from) 8 (c .if1 .taken)
 
-loop-holds : tie.Need-loop-holds Inv-loop μ-loop
-unfolding packAt
-loop-holds c = (search needs, refl, search needs)
-
-mul-word : tie.Need-mul-word Inv-loop μ-loop
-mul-word c = let l = c .before .loop in omega (arith, pack-room (l .word) (l .i) (l .inv .2) (omega arith) (omega arith))
-
-add-word : tie.Need-add-word Inv-loop μ-loop
-add-word c = let l = c .before .before .loop in omega (arith, pack-room (l .word) (l .i) (l .inv .2) (omega arith) (omega arith))
-
-loop-again : tie.Need-loop-again Inv-loop μ-loop
-loop-again c =
-    let l = c .before .before .loop in
+returns-3 : tie.Need-returns-3
+returns-3 c =
     let a = c .before .before .before .before .before .args in
-    let e : l .word * 256 + c .byte .result ≡ packAt byteBits (now (a .bytes)) (a .from + (l .i - 1)) (8 - (l .i - 1)) =
-    rw (c .byte .ensures, l .inv .1) (pack-step byteBits (now (a .bytes)) (a .from) 8 (l .i) (omega arith) (omega arith))
-    in (
-      search needs,
-      e,
-      rw e (pack-fits byteBits (now (a .bytes)) (λ k. omega (arith, c .before .before .before .before .shared-slice-known .given k)) (a .from + (l .i - 1)) (8 - (l .i - 1))),
-    )
+    let s = now (a .bytes) in
+    rw (c .pack-whole2 .ensures)
+    (tail s (λ k. c .before .before .before .before .shared-slice-known .given k) (a .from) (length s - a .from) refl (omega arith) (omega arith) (omega arith))
 
-returns-2 : tie.Need-returns-2 Inv-loop μ-loop
-returns-2 c =
-    let l = c .before .loop in
-    let a = c .before .before .before .before .args in
-    let e : l .i ≡ 0 = omega arith in
-    let f : a .from + 0 ≡ a .from = omega arith in
-    rw (e, f) at (l .inv .1)
+returns-4 : tie.Need-returns-4
+returns-4 c =
+    let a = c .before .before .before .before .before .args in
+    let s = now (a .bytes) in
+    c .pack-some .ensures .0 ∙ pack-rest byteBits s (a .from) (length s - a .from) 8 (omega arith) (omega arith)
 
 pub pack-spec : {M : Type 1} → statement M
 pack-spec =
     tie.close
-    (tie.spec Inv-loop μ-loop returns loop-holds (λ c. search needs) mul-word (λ c. search needs) (λ c κs. search needs)
-    (λ c. search needs) add-word (λ c. search needs) loop-again returns-2)
+    (tie.spec returns (λ c. search needs) (λ c κs. search needs) (λ c. search needs) (λ c κs. search needs) (λ c. search needs) (λ c. search needs) (λ c. search needs) returns-3 (λ c κs. search needs) returns-4)

@@ -18,8 +18,8 @@ returns c =
     let a = c .before .before .before .before .args in
     let s = now (a .bytes) in
     let b = bytes-take (a .span .len) (drop (a .span .at) s) (bytes-drop s (a .span .at) (λ k. c .before .before .before .shared-slice-known .given k)) in
-    let e : c .before .find-name .result ≡ findName (tableOf (now (a .words))) (partOf s (a .span)) =
-    c .before .find-name .ensures .0 ∙ ap (λ (m : Name). findName (tableOf (now (a .words))) (bytesOf m)) (c .before .before .name-in .ensures)
+    let e : c .before .find-packed .result ≡ findName (tableOf (now (a .words))) (partOf s (a .span)) =
+    c .before .find-packed .ensures .0 ∙ ap (λ (m : Name). findName (tableOf (now (a .words))) (bytesOf m)) (c .before .before .name-in .ensures)
     ∙ find-packed (now (a .words)) (partOf s (a .span)) b
     in simp (c .account-at .ensures, e)
 

@@ -1,29 +1,24 @@
-use mathlib.Core.Path.{sym, _∙_}
+use mathlib.Core.Path.{ap, _∙_}
 use denote.Ref.{now}
-use borrow.Author.Tests.{not-true, not-false}
+use Rattle.definitions.specs.AccountWords.{tableOf}
+use Rattle.definitions.specs.Names.{findName}
+use Rattle.definitions.specs.declared.account.Name.{Name}
 use Rattle.rules.specs.NameSearch.{bytesOf}
-use Rattle.rules.proofs.NameSearch.{first-found, length-none}
+use Rattle.rules.proofs.NameSearch.{find-packed}
 use borrow.Author.Needs.{needs}
 use Rattle.rules.proofs.name.find_name.Statement.{statement}
 use Rattle.rules.proofs.name.find_name.Tie as tie
 
 returns : tie.Need-returns
 returns c =
-    let a = c .before .before .args in
-    let s = c .before .set-length in
-    (sym (length-none (now (a .words)) (a .name) (sym (s .ensures) ∙ not-true (s .result) (c .if1 .taken))), search needs)
-
-first-match-requires : tie.Need-first-match-requires
-first-match-requires c κs =
-    let s = c .before .set-length in
-    sym (s .ensures) ∙ not-false (s .result) (c .if1 .left)
-
-returns-2 : tie.Need-returns-2
-returns-2 c =
     let a = c .before .before .before .args in
-    (c .first-match .ensures .0 ∙ first-found (now (a .words)) (bytesOf (a .name)), c .first-match .ensures .1)
+    let s = now (a .bytes) in (
+      c .find-packed .ensures .0 ∙ ap (λ (m : Name). findName (tableOf (now (a .words))) (bytesOf m)) (c .before .pack-name .ensures)
+          ∙ find-packed (now (a .words)) s (λ k. c .before .before .shared-slice-known .given k),
+      c .find-packed .ensures .1,
+    )
 
 pub find-name-spec : {M : Type 1} → statement M
 find-name-spec =
     tie.close
-    (tie.spec (λ c κs. search needs) returns first-match-requires returns-2)
+    (tie.spec (λ c κs. search needs) (λ c κs. search needs) returns)
