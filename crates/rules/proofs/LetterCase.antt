@@ -16,19 +16,11 @@ use Rattle.definitions.specs.Names.{lower, wordsMatch}
 use Rattle.definitions.proofs.Bools.{and-left, and-right, same-test}
 use Rattle.definitions.proofs.Words.{lane-small, lanes-same}
 use Rattle.definitions.proofs.Names.{bytes-each, each-bytes}
-use Rattle.rules.specs.LetterCase.{eight, lettered, lettersOf, keepOf}
+use Rattle.rules.specs.LetterCase.{letterBits, fromA, pastZ, lettersIn, keepIn, eight, keepOf, keepByte}
 use Rattle.rules.proofs.Lanes.{and-lane, xor-lane, add-lane, all-lane, all-most, all-either}
 
 -- ---- One byte
--- the code's mark of a letter
-abbrev letterByte : ℕ → ℕ
-letterByte c = bitAnd (bitAnd (bitXor (bitAnd c 0x5F + 0x3F) (bitAnd c 0x5F + 0x25)) (bitXor c 0x80)) 0x80
-
--- what the code keeps of a byte beside this one
-abbrev keepByte : ℕ → ℕ
-keepByte c = bitXor (letterByte c / 4) 0xFF
-
--- it keeps all but 0x20
+-- all but 0x20 counts
 isLetter : ℕ → Bool
 isLetter c = eqb (keepByte c) 0xDF
 
@@ -57,7 +49,7 @@ record ByteFacts (c : ℕ) : Type 0 where
   folded : keepByte (lower c) ≡ keepByte c
 
 all-bytes : below byteTest 256 ≡ true
-unfolding byteTest isLetter lower
+unfolding byteTest isLetter lower keepIn lettersIn
 all-bytes = refl
 
 byte-facts : (c : ℕ) → c < 256 → ByteFacts c
@@ -115,44 +107,49 @@ shift-lane x k h =
     let b : x / 2 ^ (8 * suc k) ≡ y / 256 = ap (λ (n : ℕ). x / 2 ^ n) (mul-suc 8 k) ∙ sym (shr-shr x (8 * k) 8) in
     rw a (omega (arith, (rw b at h)))
 
-module _ (word k : ℕ) where
-  sum-stays : (c : ℕ) → c ≤ 0x3F → (j : ℕ) → laneOf byteBits (lettered word) j + laneOf byteBits (eight c) j < 2 ^ byteBits
-  sum-stays c l j =
-      rw (and-lane byteBits word (eight 0x5F) j)
-      (omega (arith, and-le-r (laneOf byteBits word j) (laneOf byteBits (eight 0x5F) j), all-most byteBits 0x5F (lit< tt) 8 j, all-most byteBits c (omega arith) 8 j))
+-- no mark of a letter has one of its two lowest bits
+quads : (word k : ℕ) → laneOf byteBits (lettersIn eight word) k % 4 ≡ 0
+unfolding lettersIn
+quads word k =
+    let sums = bitXor (bitAnd word (eight letterBits) + eight fromA) (bitAnd word (eight letterBits) + eight pastZ) in
+    let v = bitAnd sums (bitXor word (eight 0x80)) in
+    let z : laneOf byteBits (eight 0x80) k % 4 ≡ 0 = all-either byteBits 0x80 (lit< tt) (λ (x : ℕ). x % 4 ≡ 0) refl refl 8 k in
+    rw (and-lane byteBits v (eight 0x80) k, and-mod (laneOf byteBits v k) (laneOf byteBits (eight 0x80) k) 2, z) (and-zero-r (laneOf byteBits v k % 4))
 
-  quads : laneOf byteBits (lettersOf word) k % 4 ≡ 0
-  unfolding lettersOf
-  quads =
-      let v = bitAnd (bitXor (lettered word + eight 0x3F) (lettered word + eight 0x25)) (bitXor word (eight 0x80)) in
-      let z : laneOf byteBits (eight 0x80) k % 4 ≡ 0 = all-either byteBits 0x80 (lit< tt) (λ (x : ℕ). x % 4 ≡ 0) refl refl 8 k in
-      rw (and-lane byteBits v (eight 0x80) k, and-mod (laneOf byteBits v k) (laneOf byteBits (eight 0x80) k) 2, z) (and-zero-r (laneOf byteBits v k % 4))
+module _ (word k : ℕ) where
+  abbrev lettered : ℕ
+  lettered = bitAnd word (eight letterBits)
+
+  sum-stays : (c : ℕ) → letterBits + c < 256 → (j : ℕ) → laneOf byteBits lettered j + laneOf byteBits (eight c) j < 2 ^ byteBits
+  sum-stays c l j =
+      rw (and-lane byteBits word (eight letterBits) j)
+      (omega (arith, and-le-r (laneOf byteBits word j) (laneOf byteBits (eight letterBits) j), all-most byteBits letterBits (lit< tt) 8 j, all-most byteBits c (omega arith) 8 j))
 
   module _ (h : k < 8) where
-    sum-lane : (c : ℕ) → c ≤ 0x3F → laneOf byteBits (lettered word + eight c) k ≡ bitAnd (laneOf byteBits word k) 0x5F + c
+    sum-lane : (c : ℕ) → letterBits + c < 256 → laneOf byteBits (lettered + eight c) k ≡ bitAnd (laneOf byteBits word k) letterBits + c
     sum-lane c l =
-        add-lane byteBits (lettered word) (eight c) k (sum-stays c l)
-        ∙ rw (and-lane byteBits word (eight 0x5F) k, all-lane byteBits 0x5F (lit< tt) 8 k h, all-lane byteBits c (omega arith) 8 k h)
+        add-lane byteBits lettered (eight c) k (sum-stays c l)
+        ∙ rw (and-lane byteBits word (eight letterBits) k, all-lane byteBits letterBits (lit< tt) 8 k h, all-lane byteBits c (omega arith) 8 k h)
 
-    letters-lane : laneOf byteBits (lettersOf word) k ≡ letterByte (laneOf byteBits word k)
-    unfolding lettersOf
+    letters-lane : laneOf byteBits (lettersIn eight word) k ≡ lettersIn (λ number. number) (laneOf byteBits word k)
+    unfolding lettersIn
     letters-lane =
         rw (
           and-lane,
           and-lane,
           xor-lane,
           xor-lane,
-          sum-lane 0x3F (omega arith),
-          sum-lane 0x25 (omega arith),
+          sum-lane fromA (omega arith),
+          sum-lane pastZ (omega arith),
           all-lane byteBits 0x80 (lit< tt) 8 k h,
         )
 
--- the bits that count, byte by byte
-keep-lane : (word k : ℕ) → k < 8 → laneOf byteBits (keepOf word) k ≡ keepByte (laneOf byteBits word k)
-unfolding keepOf
-keep-lane word k h =
-    xor-lane byteBits (lettersOf word / 4) (eight 0xFF) k
-    ∙ rw (shift-lane (lettersOf word) k (quads word (suc k)), letters-lane word k h, all-lane byteBits 0xFF (lit< tt) 8 k h)
+    -- the bits that count of a word are those of its bytes, each in its place
+    keep-lane : laneOf byteBits (keepOf word) k ≡ keepByte (laneOf byteBits word k)
+    unfolding keepIn
+    keep-lane =
+        xor-lane byteBits (lettersIn eight word / 4) (eight 0xFF) k
+        ∙ rw (shift-lane (lettersIn eight word) k (quads word (suc k)), letters-lane, all-lane byteBits 0xFF (lit< tt) 8 k h)
 
 -- ---- Two words
 module _ (a b : ℕ) (ha : a < 2 ^ 64) (hb : b < 2 ^ 64) where
