@@ -93,11 +93,13 @@ void tickets_fresh(uint64_t *accounts, uint64_t *ledger);
 uint32_t tickets_edit(uint64_t *accounts, uint32_t number, const uint8_t *name, size_t name_len, uint32_t flags, uint64_t send,
                       uint64_t receive, uint32_t lifetime);
 
-/* The number, 0 to 63, of the account that the `name_len` bytes at `name` stand for, or TICKETS_NO_ACCOUNT where no account's name matches (R2.11). A
- * name matches where its length is the same and each byte is, with ASCII letter case ignored (R2.6). Any bytes may be asked for: no account has a name
- * of 0 bytes or of more than 24, and a zero byte is a byte of the name. If several accounts match, which no calls bring about, it is the lowest. A
- * disabled account is found too. The accounts are only read. */
+/* What tickets_find_name answers where no account's name matches: no account has this number. */
 enum { TICKETS_NO_ACCOUNT = 64 };
+
+/* The number, 0 to 63, of the account that the `name_len` bytes at `name` stand for, or TICKETS_NO_ACCOUNT (R2.11). A name matches an account's
+ * where its length is the same and each byte is, with ASCII letter case ignored (R2.6). Any bytes may be asked for: no account has a name of 0
+ * bytes or of more than 24, and a zero byte is a byte of the name. If several accounts match, which no calls bring about, it is the lowest. A
+ * disabled account is found too. The accounts are only read. */
 uint32_t tickets_find_name(const uint64_t *accounts, const uint8_t *name, size_t name_len);
 
 /* Answers the request of `request_len` bytes at `request` (R4), at the clock reading `clock`, in seconds. For an initial
@@ -193,8 +195,8 @@ static inline uint64_t tickets_service_day_total(const tickets_service *service)
 
 /* ---- Names, eight bytes at a time (R2.12). */
 
-/* 1 where all eight pairs of bytes of two words match, else 0. Two bytes match where they are equal, or where they are ASCII letters that differ in
- * 0x20 alone: `A` and `a` do, 0x40 and 0x60 do not. Byte i of a word is the one at the bits 8i to 8i + 7. */
+/* 1 where all eight pairs of bytes of two words match, else 0. Two bytes match where they are equal, or where they are ASCII letters that
+ * differ in 0x20 alone: `A` and `a` do, 0x40 and 0x60 do not. Byte i of a word is the one at the bits 8i to 8i + 7. */
 uint32_t tickets_words_match(uint64_t a, uint64_t b);
 
 /* ---- The record layer's readers and writer (R3, R4). */
