@@ -156,7 +156,7 @@ module _ (a b : ℕ) (ha : a < 2 ^ 64) (hb : b < 2 ^ 64) where
   kept-lane : (word k : ℕ) → k < 8 → laneOf byteBits (bitAnd word (keepOf b)) k ≡ bitAnd (laneOf byteBits word k) (keepByte (laneOf byteBits b k))
   kept-lane word k h = and-lane byteBits word (keepOf b) k ∙ ap (bitAnd (laneOf byteBits word k)) (keep-lane b k h)
 
-  -- what the code compares says whether all eight pairs of bytes match
+  -- what the code compares is equal exactly where the words match
   pub kept-match : eqb (bitAnd a (keepOf b)) (bitAnd b (keepOf b)) ≡ wordsMatch a b
   kept-match = same-test _ _ told same
     where

@@ -1,4 +1,4 @@
-// Names matched a word at a time: whether two words of eight bytes match (R2.12).
+// Whether two words, eight bytes of a name each, match (R2.12).
 ghost use mathlib.Core.Path.{_≡_};
 ghost use Rattle.definitions.specs.Names.{wordsMatch};
 ghost use Rattle.rules.specs.LetterCase.{keepOf};
@@ -15,7 +15,7 @@ fn keep(word: u64) -> u64
     (letters >> 2) ^ 0xFFFFFFFFFFFFFFFF
 }
 
-// Whether all eight pairs of bytes match.
+// Whether the bytes of two words match at each of the eight places.
 pub fn words_match(a: u64, b: u64) -> bool
     ensures { λ r. ⌜ r ≡ wordsMatch a b ⌝ }
 {

@@ -34,7 +34,7 @@ fn first_bytes(count: usize) -> u64
     0xFFFFFFFFFFFFFFFF >> (64 - 8 * count)
 }
 
-// Whether a word of a row agrees with that of a name of a length, of which some bytes lie in it, as far as the name goes.
+// Whether a word of a row agrees with that of a name of a length, as far as the name goes; some of its bytes lie in that word.
 fn same_part(
     words: &AccountWords,
     n: usize,
@@ -84,7 +84,7 @@ pub(crate) fn same_name(words: &AccountWords, n: usize, ignore: bool, name: Name
     same_part(words, n, 0, ignore, name.first, length)
 }
 
-// Whether a row is set and matches a name. Of most rows only the length is looked at.
+// Whether a row is set and matches a name. Of most rows only the length is looked at, which is a byte and is compared as one.
 fn matches_name(words: &AccountWords, n: usize, name: Name) -> bool
     requires { ⌜ (n < accountLimit) × (setLength (name .length) ≡ true) ⌝ }
     ensures { λ r. ⌜ r ≡ hasName (now (words .entry)) n true (bytesOf name) ⌝ }
