@@ -6,7 +6,7 @@ use crate::limits::{HEADER_SIZE, NAME_LIMIT, ROW_SIZE};
 use crate::words::AccountWords;
 
 /// R2.7: the number of the first row whose name matches, or that of no account. Of the plain forms that
-/// docs/PERFORMANCE.md counts this is the one with the fewest instructions.
+/// docs/PERFORMANCE.md counts this is the one with the fewest instructions where bytes are compared.
 pub fn find_name(accounts: &AccountWords, name: &[u8]) -> u32 {
     if !(1..=NAME_LIMIT).contains(&name.len()) {
         return NO_ACCOUNT;
