@@ -8,7 +8,7 @@ use lib.ListN.{length, replicate}
 use Rattle.definitions.specs.Errors.{answer_number}
 use Rattle.definitions.specs.Fields.{has_bit}
 use Rattle.definitions.specs.Words.{lanes_of}
-use Rattle.definitions.specs.Accounts.{Row, no_row, Table, row_of, account_at, no_accounts, is_disabled, is_enabled, is_barred, is_trusted, is_service, in_set}
+use Rattle.definitions.specs.Accounts.{no_row, Table, row_of, account_at, no_accounts, is_disabled, is_enabled, is_barred, is_trusted, is_service, in_set}
 use Rattle.definitions.specs.Names.{good_byte, good_bytes, good_name, lower, agree, same_name, words_match, matches, number_from, find_name, name_taken}
 use Rattle.definitions.specs.Edits.{Edit, edit_of, edit_row, edit_checks, edit_answer, edited}
 use Rattle.definitions.specs.declared.account.Account.{Account}

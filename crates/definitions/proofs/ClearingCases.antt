@@ -8,13 +8,12 @@ use mathlib.Core.Option.{Option, some, none}
 use Prim.Native.Nat.{ℕ}
 use native.Mathlib.Omega.{arith}
 use lib.ListN.{length, replicate, set, drop}
-use Rattle.definitions.specs.Limits.{ledger_size, next_word, ticket_limit, last_number}
+use Rattle.definitions.specs.Limits.{ledger_size, next_word, last_number}
 use Rattle.definitions.specs.Errors.{answer_number}
 use Rattle.definitions.specs.Equality.{same_ticket}
 use Rattle.definitions.specs.Fields.{has_bit, number_at, big_endian, run, past_field, offset_of, field_of, field_bytes, bytes_to}
 use Rattle.definitions.specs.TicketRecords.{known_map, hops_fit, readable_as, origin_as, trail_of, read_ticket, record_as}
 use Rattle.definitions.specs.Requests.{map_fits, path_of, embedded_of, whole_request, request_for, read_request}
-use Rattle.definitions.specs.Accounts.{Table}
 use Rattle.definitions.specs.Names.{good_bytes, good_name, lower, agree, same_name, number_from, name_taken}
 use Rattle.definitions.specs.Edits.{edit_of, edit_checks}
 use Rattle.definitions.specs.Decisions.{tgt_checks, evidence_checks, user_checks, last_checks, hop_checks, initial_checks, direct_checks, s4u2self_checks, s4u2proxy_checks, decide_initial, decide_direct, decide_s4u2self, decide_s4u2proxy, opening_checks}
@@ -33,7 +32,7 @@ use Rattle.definitions.specs.Answers.{Call, edit, request, clear, Reply, decide_
 use Rattle.definitions.specs.Book.{Book, tickets, empty_book, after, replies}
 use Rattle.definitions.specs.Services.{fresh_service}
 use Rattle.definitions.specs.History.{service_after, replies_to}
-use Rattle.definitions.specs.Demand.{Grant, granted, grant_ticket, is_left, uncleared, Supported}
+use Rattle.definitions.specs.Demand.{granted, grant_ticket, is_left, uncleared, Supported}
 use Rattle.definitions.specs.LawfulDescent.{rests_on}
 use Rattle.definitions.specs.declared.ticket.Origin.TheVariants.{Initial, Direct, S4U2self, Delegated}
 use Rattle.definitions.specs.declared.ticket.Ticket.{Ticket}

@@ -12,9 +12,7 @@ use lib.Arith.{digits_div, digits_mod}
 use lib.ListN.{length, get_or, set, length-set}
 use lib.Seq.{get_or-set_same, get_or-set_other}
 use lib.Dec.{eqb}
-use mir.Val.{Fits}
 use Rattle.definitions.specs.Limits.{ledger_size, ticket_limit, place_size, two16, two32, two48, trail_limit, byte_bits, number_bits, count_word, next_word, numbers_start, window_word, back_word, trail_word, two4, two8, two40, two56, two60}
-use mir.Syntax.{w16}
 use Rattle.definitions.specs.TicketRecords.{InRange, tgt_of, evidence_of}
 use Rattle.definitions.specs.declared.ticket.Origin.{Origin}
 use Rattle.definitions.specs.declared.ticket.Origin.TheVariants.{Initial, Direct, S4U2self, Delegated}

@@ -1,7 +1,7 @@
 -- Cases of requests that are written (R11.9), and of what is read back (R11.10), over the definitions, by evaluation.
 -- Assumes nothing.
 use mathlib.Core.Path.{◌≡◌, refl}
-use mathlib.Core.Bool.{Bool, true, false}
+use mathlib.Core.Bool.{true}
 use mathlib.Core.List.{List, [], ◌∷◌, ◌++◌, map}
 use Prim.Native.Nat.{ℕ}
 use lib.ListN.{length, replicate, take}
@@ -12,7 +12,6 @@ use Rattle.definitions.specs.Requests.{map_fits, path_of}
 use Rattle.definitions.specs.RequestWriting.{RequestParts, request_parts, number_fits, numbers_fit, record_fits, writable, request_of, request_written, request_output}
 use Rattle.definitions.specs.ReadBack.{padded_name, account_fields, ticket_fields}
 use Rattle.definitions.specs.declared.error.Error.TheVariants.{KRB_ERR_RESPONSE_TOO_BIG, KRB_ERR_GENERIC}
-use Rattle.definitions.specs.declared.ticket.Written.{Written}
 use Rattle.definitions.specs.declared.ticket.Written.TheVariants.{Length, Refused}
 use Rattle.definitions.proofs.RecordCases.{record-0, record-1, ticket-2, W1}
 use Rattle.definitions.proofs.DecisionCases.{tech, web, store}

@@ -8,7 +8,7 @@ use lib.ListN.{length, replicate}
 use Rattle.definitions.specs.Errors.{error_number, answer_number, is_accepted}
 use Rattle.definitions.specs.Checks.{and_then}
 use Rattle.definitions.specs.Fields.{has_bit, number_at, big_endian, run, past_field, offset_of, field_of, field_bytes, bytes_to}
-use Rattle.definitions.specs.TicketRecords.{known_map, hops_fit, readable_as, origin_as, trail_of, accepted, refused, read_ticket, all_zero, service_fits, well_formed, record_as, record_of, blank_ticket}
+use Rattle.definitions.specs.TicketRecords.{known_map, hops_fit, readable_as, origin_as, trail_of, accepted, read_ticket, all_zero, service_fits, well_formed, record_as, record_of, blank_ticket}
 use Rattle.definitions.specs.Output.{written_of, output_of}
 use Rattle.definitions.specs.Requests.{map_fits, path_of, part_of, embedded_of, whole_request, nowhere, refused_request, request_for, read_request}
 use Rattle.definitions.specs.declared.error.Error.TheVariants.{KDC_ERR_C_PRINCIPAL_UNKNOWN, KDC_ERR_S_PRINCIPAL_UNKNOWN, KDC_ERR_PRINCIPAL_NOT_UNIQUE, KDC_ERR_NEVER_VALID, KDC_ERR_POLICY, KDC_ERR_BADOPTION, KDC_ERR_CLIENT_REVOKED, KDC_ERR_SERVER_NOMATCH, KDC_ERR_SVC_UNAVAILABLE, KRB_AP_ERR_TKT_EXPIRED, KRB_AP_ERR_TKT_NYV, KRB_AP_ERR_NOT_US, KRB_AP_ERR_MODIFIED, KRB_ERR_RESPONSE_TOO_BIG, KRB_ERR_GENERIC, KRB_ERR_FIELD_TOOLONG}
@@ -24,7 +24,7 @@ use Rattle.definitions.specs.declared.request.Path.TheVariants.{Decide, Refuse}
 use Rattle.definitions.specs.declared.request.RequestReading.{RequestReading}
 use Rattle.definitions.proofs.RecordCases.{W1}
 use Rattle.definitions.proofs.DecisionCases.{tech, web, store}
-use Rattle.definitions.proofs.CaseValues.{ticket, nothing, request-1, request-2, request-3, request-4, enough}
+use Rattle.definitions.proofs.CaseValues.{ticket, request-1, request-2, request-3, request-4, enough}
 use Rattle.definitions.proofs.AccountCases.{span, passing}
 
 -- ---- Records whose bytes all differ

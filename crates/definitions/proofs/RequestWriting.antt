@@ -1,32 +1,28 @@
 -- Laws of the writer of requests: the reader gives back what it wrote, and it writes again what the reader took (R4.9).
 -- Assumes nothing.
-use mathlib.Core.Path.{◌≡◌, refl, sym, ap, ap₂, ◌∙◌}
+use mathlib.Core.Path.{◌≡◌, refl, sym, ap, ◌∙◌}
 use mathlib.Core.Bool.{Bool, true, false, ◌&&◌, cond, false≢true}
 use mathlib.Core.List.{List, [], ◌∷◌}
-use Prim.Native.Nat.{ℕ, zero, suc, ◌+◌, ◌*◌, ◌%◌, ◌^◌, ◌≤◌, ◌<◌}
+use Prim.Native.Nat.{ℕ, zero, suc, ◌+◌, ◌*◌, ◌^◌, ◌≤◌, ◌<◌}
 use native.Mathlib.Nat.{one-le-pow, zero-lt-suc, zero-mul}
 use native.Mathlib.Omega.{arith}
 use lib.ListN.{length, take, drop}
-use lib.Dec.{ltb, eqb, lit<}
-use lib.Bits.{bit_and, bit_or, or_add_and, and_le_l}
+use lib.Dec.{ltb, eqb}
+use lib.Bits.{bit_and, bit_or, or_add_and}
 use borrow.Author.Tests.{eqb-true, eqb-false, eq-eqb, ltb-true, lt-ltb}
 use Rattle.definitions.specs.Limits.{two32}
-use Rattle.definitions.specs.Fields.{Bytes, Layout, row, field_at, units_size, has_bit, number_at, run, map_of, offset_of, end_of, field_of, counted_of, Value, plain, value_at, bytes_to}
+use Rattle.definitions.specs.Fields.{Bytes, Layout, row, field_at, units_size, has_bit, number_at, run, map_of, offset_of, end_of, field_of, counted_of, Value, value_at, bytes_to}
 use Rattle.definitions.specs.TicketRecords.{blank_ticket, accepted, read_ticket, record_of}
-use Rattle.definitions.specs.Errors.{is_accepted}
-use Rattle.definitions.specs.Requests.{request_layout, needed_bits, allowed_bits, map_fits, kind_number, kind_path, path_of, span_of, part_of, embedded_of, has_ticket, whole_request, request_as, refused_request, request_for, read_request}
-use Rattle.definitions.specs.RequestWriting.{RequestParts, request_parts, map_of_parts, counted, part_values, number_fits, numbers_fit, record_fits, is_decided, writable, request_of, parts_read, with_map, PartsAreBytes}
-use Rattle.definitions.specs.declared.error.Answer.{Answer}
-use Rattle.definitions.specs.declared.error.Answer.TheVariants.{Accepted, Refused}
+use Rattle.definitions.specs.Requests.{request_layout, needed_bits, map_fits, kind_number, kind_path, path_of, span_of, part_of, embedded_of, has_ticket, whole_request, request_as, refused_request, request_for, read_request}
+use Rattle.definitions.specs.RequestWriting.{RequestParts, map_of_parts, counted, part_values, number_fits, numbers_fit, record_fits, is_decided, writable, request_of, parts_read, with_map, PartsAreBytes}
+use Rattle.definitions.specs.declared.error.Answer.TheVariants.{Accepted}
 use Rattle.definitions.specs.declared.request.Kind.{Kind}
 use Rattle.definitions.specs.declared.request.Kind.TheVariants.{Initial, Direct, S4U2self, S4U2proxy}
 use Rattle.definitions.specs.declared.request.Path.{Path}
 use Rattle.definitions.specs.declared.request.Path.TheVariants.{Decide, Refuse}
-use Rattle.definitions.specs.declared.request.Request.{Request}
 use Rattle.definitions.specs.declared.request.RequestReading.{RequestReading}
-use Rattle.definitions.specs.declared.ticket.Reading.{Reading}
 use Rattle.definitions.proofs.Bools.{and_left, and_right}
-use Rattle.definitions.proofs.Fields.{length_run, field_fits, run_take, bytes_take, values_in, value_read, bytes-written, bytes-none, Fit, AllFit, offset-back, field_back, counted_back, map_back, length_most}
+use Rattle.definitions.proofs.Fields.{length_run, field_fits, run_take, bytes_take, values_in, value_read, bytes-written, Fit, AllFit, offset-back, field_back, counted_back, map_back, length_most}
 use Rattle.definitions.proofs.RoundTrip.{also, kept-or-zero, plain_fits, written-again}
 use Rattle.definitions.proofs.Requests.{allowed-small, fits-most, span-within, whole_length, accepted-reading, bytes_drop}
 

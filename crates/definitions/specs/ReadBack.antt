@@ -1,6 +1,6 @@
 -- What is read back of a service (R2.13, R7.7): an account and a ticket in numbers, a name in bytes.
 -- Assumes nothing.
-use Rattle.std.specs.Prelude.{ℕ, ◌-◌, ◌%◌, Bool, true, false, cond, List, [], ◌∷◌, ◌++◌, length, replicate}
+use Rattle.std.specs.Prelude.{ℕ, ◌-◌, ◌%◌, Bool, cond, List, [], ◌∷◌, ◌++◌, length, replicate}
 use Rattle.definitions.specs.Limits.{name_limit, trail_limit, two4}
 use Rattle.definitions.specs.Fields.{run}
 use Rattle.definitions.specs.Accounts.{Row}
