@@ -16,6 +16,8 @@
 //
 // Words are parted by one space. Numbers are decimal, or hexadecimal after 0x; bytes are hexadecimal, `-` for none; a name is as it is.
 // A line that is no call changes nothing, and is answered by `? LINE: what is wrong`.
+#![tactic(auto)]
+
 ghost use Rattle.std.specs.Prelude.{◌≤◌};
 
 use definitions::{

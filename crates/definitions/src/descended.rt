@@ -2,7 +2,7 @@
 use crate::error::Error;
 
 // The steps back to an initial ticket, or 41.
-#[derive(Drop)]
+#[derive(Clone, Copy)]
 pub enum Descended {
     Steps(u32),
     Refused(Error),

@@ -154,7 +154,7 @@ fn length_in(written: Written) -> usize
 }
 
 // What a request is answered, with the length of a grant's record; 0 beside a refusal.
-#[derive(Drop)]
+#[derive(Clone, Copy)]
 pub struct Replied {
     pub answer: Answer,
     pub ticket: Ticket,

@@ -16,7 +16,7 @@ use definitions::{NUMBER_BITS, NUMBERS_IN_WORD, PLACE_SIZE, TWO_16, TWO_32, TWO_
 
 // How far the places are closed up: how many words the places kept have, and the last four numbers kept, the last of them on top. Those that
 // do not fill a word wait.
-#[derive(Drop)]
+#[derive(Clone, Copy)]
 pub struct Closing {
     pub at: usize,
     pub numbers: u64,

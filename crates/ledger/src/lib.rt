@@ -1,4 +1,6 @@
 // Layer 3, the ledger: the tickets held, in words that the caller lends; the calls, descent and day total (R7).
+#![tactic(auto)]
+
 mod call;
 mod clearing;
 mod held;

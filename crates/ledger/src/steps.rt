@@ -10,14 +10,14 @@ use crate::words::{LedgerWords, count_held, origin_at};
 use definitions::{Descended, Error, Origin, TWO_16};
 
 // Where a ticket's back number leads.
-#[derive(Drop)]
+#[derive(Clone, Copy)]
 pub enum Back {
     Stop,
     To(u16),
 }
 
 // Whether a number stands for a ticket, and where that comes from; initial stands where there is none.
-#[derive(Drop)]
+#[derive(Clone, Copy)]
 pub struct Standing {
     pub found: bool,
     pub origin: Origin,

@@ -1,5 +1,7 @@
 // The morning of R11.3: three accounts, and the requests W1 to W4, made of the records that were answered.
 // Prints a line for each request: its kind, the error number (0 granted), and the record in hexadecimal, or `-`.
+#![tactic(auto)]
+
 ghost use Rattle.std.specs.Prelude.{◌+◌, ◌≤◌, length};
 
 use definitions::{ACCOUNTS_SIZE, LEDGER_SIZE, LONGEST_RECORD};

@@ -2,14 +2,14 @@
 use definitions::Span;
 
 // The number in the head of a field, 0 where its bit does not stand, and the position past the field.
-#[derive(Drop)]
+#[derive(Clone, Copy)]
 pub struct Found {
     pub value: u32,
     pub next: usize,
 }
 
 // The numbers of a ticket's record, the position where the accounts of its trail start, and whether trail and length fit.
-#[derive(Drop)]
+#[derive(Clone, Copy)]
 pub struct Walk {
     pub number: u16,
     pub flags: u32,
@@ -25,14 +25,14 @@ pub struct Walk {
 }
 
 // Where the bytes lie that a field counts, and the position past it.
-#[derive(Drop)]
+#[derive(Clone, Copy)]
 pub struct Part {
     pub span: Span,
     pub next: usize,
 }
 
 // The numbers and the parts of a request, and the position past it.
-#[derive(Drop)]
+#[derive(Clone, Copy)]
 pub struct Parts {
     pub options: u32,
     pub pac_options: u32,

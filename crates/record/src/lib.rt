@@ -1,5 +1,7 @@
 // Layer 1, the record layer: ticket records and requests (R3, R4).
 // This file holds what both records are made of: a 16-bit map, and the fields of its bits, taken one after the other at a cursor.
+#![tactic(auto)]
+
 mod compare;
 mod errors;
 mod found;

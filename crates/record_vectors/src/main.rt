@@ -11,6 +11,8 @@
 // One space parts the words. Those after the first are hexadecimal, in lower case, and `-` is no bytes. SIZE is one byte. A VALUE is 31 bytes:
 // number 2, flags 4, client 1, service 1, start 4, end 4, origin 1 (initial 0, direct 1, self 2, delegated 3), TGT 2, evidence 2, hops 1,
 // trail 8, barred 1. The files `stdin` and `stdout` come from a second implementation (harness/src/bin/record_vectors.rs).
+#![tactic(auto)]
+
 ghost use Rattle.std.specs.Prelude.{◌≤◌};
 
 use definitions::{Kind, Origin, Principal, Request, TRAIL_LIMIT, Ticket, Window, Written};

@@ -1,5 +1,7 @@
 // Layer 2, the rules: accounts and names in words that the caller lends, edits, the checks and the four decisions (R2, R5, R6). What layer 3
 // needs of records and requests comes through here.
+#![tactic(auto)]
+
 mod accounts;
 mod check;
 mod decision;

@@ -1,6 +1,8 @@
 // The C interface (include/tickets.h): the calls of the service, what reads it, saving and loading, the record layer's readers and writers, and the
 // comparison of two words of names.
 // Only numbers, words and slices of bytes cross the border. A function takes any words, any bytes and any output.
+#![tactic(auto)]
+
 mod saving;
 
 ghost use Rattle.std.specs.Prelude.{◌≡◌, ℕ, ◌≤◌, ◌<◌, length};
@@ -30,7 +32,7 @@ use saving::{is_loadable, load_words, put_body, put_sums};
 
 // What a call answers: the error number, 0 where there is none, and a value, 0 beside an error.
 #[repr(C)]
-#[derive(Drop)]
+#[derive(Clone, Copy)]
 pub struct TicketsAnswer {
     pub error: u32,
     pub value: u32,

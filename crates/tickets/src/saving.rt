@@ -11,7 +11,7 @@ use definitions::{
 use record::both;
 
 // The two halves of a check sum.
-#[derive(Drop)]
+#[derive(Clone, Copy)]
 pub(crate) struct Sums {
     pub first: u64,
     pub second: u64,

@@ -1,0 +1,7 @@
+use mathlib.Core.Path.{sym}
+use Rattle.definitions.proofs.Fields.{number-two}
+use borrow.Author.Rules.{rules}
+use Rattle.record.proofs.map_of.Goals as goal
+
+pub returns : goal.returns
+returns c = rw (number-two, sym c.byte.ensures, sym c.byte-2.ensures)

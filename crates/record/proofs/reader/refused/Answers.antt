@@ -1,0 +1,5 @@
+use borrow.Author.Rules.{rules}
+use Rattle.record.proofs.reader.refused.Goals as goal
+
+pub returns : goal.returns
+returns c = rw c.blank_ticket.ensures

@@ -1,0 +1,12 @@
+use mathlib.Core.Path.{sym, ◌∙◌}
+use Rattle.definitions.specs.RequestWriting.{record_fits}
+use borrow.Author.Rules.{rules}
+use Rattle.record.proofs.request_writer.record_fits.Goals as goal
+
+pub returns-then-present : goal.returns-then-present
+unfolding record_fits
+returns-then-present c = rw (sym c.present.ensures ∙ c.if-present.true, sym c.read_ticket-reading.ensures) c.is_accepted.ensures
+
+pub returns-else-present : goal.returns-else-present
+unfolding record_fits
+returns-else-present c = rw (sym c.present.ensures ∙ c.if-present.false)

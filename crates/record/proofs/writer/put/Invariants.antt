@@ -1,0 +1,18 @@
+use Prim.Native.Nat.{suc, ◌≤◌, ◌-◌}
+use mathlib.Core.Path.{◌≡◌, refl, ◌∙◌}
+use native.Mathlib.Omega.{arith}
+use lib.ListN.{length, length-set}
+use lib.Seq.{sets}
+use Rattle.definitions.specs.Fields.{big_endian}
+use Rattle.record.proofs.Cursor.{put_step}
+use Rattle.definitions.proofs.Fields.{length-big_endian}
+use borrow.Author.Rules.{rules}
+use Rattle.record.proofs.writer.put.Given as goal
+
+abbrev pub invariant-loop-i : goal.invariant-loop-i
+invariant-loop-i l = (l.i ≤ l.width) × (length l.out ≡ length l.initial.out) × (sets l.out l.at (big_endian l.i l.rest) ≡ sets l.initial.out l.at (big_endian l.width l.number))
+
+
+abbrev pub decreases-loop-i : goal.decreases-loop-i
+decreases-loop-i l = l.i
+
