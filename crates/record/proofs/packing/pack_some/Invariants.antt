@@ -11,7 +11,5 @@ use Rattle.record.proofs.packing.pack_some.Given as goal
 abbrev pub invariant-loop-i : goal.invariant-loop-i
 invariant-loop-i l = (l.i ≤ l.count) × (l.word ≡ pack_at byte_bits l.bytes (l.from + l.i) (l.count - l.i)) × (l.word < 256 ^ (l.count - l.i))
 
-
 abbrev pub decreases-loop-i : goal.decreases-loop-i
 decreases-loop-i l = l.i
-

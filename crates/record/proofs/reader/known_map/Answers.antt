@@ -13,4 +13,4 @@ returns-in-55 c =
 
 pub returns-in_default : goal.returns-in_default
 returns-in_default c =
-    sym (unknown c.args.map (past-arm c.args.map known_maps c.in-55.rest.1))
+    sym (unknown c.args.map (past-arm c.args.map known_maps c.in_default.in_default-own.rest.1))

@@ -9,7 +9,7 @@ returns-then-not-known_map c =
     let m = c.map_of-map in
     let k = c.known_map in
     c.refused.ensures
-    ∙ read-unknown c.args.bytes.now m.result m.ensures (sym k.ensures ∙ not-true k.result c.if-not-known_map.true)
+    ∙ read-unknown c.args.bytes.now m.result m.ensures (sym k.ensures ∙ c.if-not-known_map.true)
 
 pub returns-then-not-found : goal.returns-then-not-found
 returns-then-not-found c =
@@ -17,7 +17,7 @@ returns-then-not-found c =
     let m = c.map_of-map in
     let k = c.known_map in
     let w = c.walk-found in
-    let fits = sym (w.ensures.fits (sym k.ensures ∙ not-false k.result c.if-not-known_map.false)) in
+    let fits = sym (w.ensures.fits (sym k.ensures ∙ c.if-not-known_map.false)) in
     c.refused-then-not-found.ensures ∙ read_no s m.result m.ensures (fits ∙ not-true w.result.fits c.if-not-found.true)
 
 pub trail_of-trail-requires : goal.trail_of-trail-requires
@@ -26,7 +26,7 @@ trail_of-trail-requires c =
     let m = c.map_of-map in
     let k = c.known_map in
     let w = c.walk-found in
-    let fits = sym (w.ensures.fits (sym k.ensures ∙ not-false k.result c.if-not-known_map.false)) in
+    let fits = sym (w.ensures.fits (sym k.ensures ∙ c.if-not-known_map.false)) in
     let r = fits ∙ not-false w.result.fits c.if-not-found.false in
     rw (w.ensures.numbers r) (readable-few s m.result r, readable-trail s m.result r)
 
@@ -36,7 +36,7 @@ returns c =
     let m = c.map_of-map in
     let k = c.known_map in
     let w = c.walk-found in
-    let fits = sym (w.ensures.fits (sym k.ensures ∙ not-false k.result c.if-not-known_map.false)) in
+    let fits = sym (w.ensures.fits (sym k.ensures ∙ c.if-not-known_map.false)) in
     let r = fits ∙ not-false w.result.fits c.if-not-found.false in
     c.accepted.ensures
     ∙ read-yes s m.result _ m.ensures r

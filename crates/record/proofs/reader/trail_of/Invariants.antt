@@ -11,7 +11,5 @@ use Rattle.record.proofs.reader.trail_of.Given as goal
 abbrev pub invariant-loop-i : goal.invariant-loop-i
 invariant-loop-i l = (l.i ≤ l.n) × (l.trail ≡ trail_of l.bytes l.at l.i)
 
-
 abbrev pub decreases-loop-i : goal.decreases-loop-i
 decreases-loop-i l = l.n - l.i
-

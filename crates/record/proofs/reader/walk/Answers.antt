@@ -16,27 +16,24 @@ ticket_field-number-requires c = (search rules, sym (offset-first ticket_layout 
 pub returns : goal.returns
 unfolding readable_as
 returns c =
-    let last = c in
-    let ninth = last.before.before in
-    let fifth = ninth.before.before.before.before in
     let a = c.args in
     let s = a.bytes.now in
-    let hops = ninth.ticket-field9.ensures.single (omega arith) in
-    let fits : known_map a.map ≡ true → c.both-fits.result ≡ readable_as s a.map = λ k. c.both-fits.ensures ∙ rw (c.hops_fit.ensures, k, hops, last.ticket-field11.ensures.next) in
+    let hops = c.ticket_field-accounts.ensures.single (omega arith) in
+    let fits : known_map a.map ≡ true → c.both-fits.result ≡ readable_as s a.map = λ k. c.both-fits.ensures ∙ rw (c.hops_fit.ensures, k, hops, c.ticket_field-self_mark.ensures.next) in
     record {
       fits = fits;
       numbers = λ r.
           let w : end_of ticket_layout s a.map ≤ length s = omega (arith, readable-length s a.map r) in
           simp (
-            fifth.before.before.before.before.ticket-field.ensures.value w,
-            fifth.before.before.before.ticket-field2.ensures.value w,
-            fifth.before.before.ticket-field3.ensures.value w,
-            fifth.before.ticket-field4.ensures.value w,
-            fifth.ticket-field5.ensures.value w,
-            ninth.before.before.before.ticket-field6.ensures.value w,
-            ninth.before.before.ticket-field7.ensures.value w,
-            ninth.before.ticket-field8.ensures.value w,
-            ninth.before.ticket-field8.ensures.next,
+            c.ticket_field-number.ensures.value w,
+            c.ticket_field-flags.ensures.value w,
+            c.ticket_field-client.ensures.value w,
+            c.ticket_field-service.ensures.value w,
+            c.ticket_field-start.ensures.value w,
+            c.ticket_field-end.ensures.value w,
+            c.ticket_field-tgt.ensures.value w,
+            c.ticket_field-evidence.ensures.value w,
+            c.ticket_field-evidence.ensures.next,
             hops,
             fits (readable-known s a.map r) ∙ r,
           );

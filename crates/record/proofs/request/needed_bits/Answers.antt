@@ -4,6 +4,6 @@ use Rattle.record.proofs.request.needed_bits.Goals as goal
 
 pub returns : goal.returns
 returns c = record {
-      exact = search rules;
-      bounded = needed-small c.args.kind;
-    }
+  exact = search rules;
+  bounded = needed-small c.args.kind;
+}

@@ -10,19 +10,17 @@ request_field-first-requires c = (search rules, sym (offset-first request_layout
 
 pub returns : goal.returns
 returns c =
-    let numbers = c in
-    let parts = c in
     record {
       whole = λ w.
           simp (
-            numbers.before.before.request-field2.ensures.value w,
-            numbers.before.request-field3.ensures.value w,
-            numbers.request-field4.ensures.value w,
-            parts.before.before.before.part_at.ensures.span w,
-            parts.before.before.part-at2.ensures.span w,
-            parts.before.part-at3.ensures.span w,
-            parts.part-at4.ensures.span w,
-            parts.part-at4.ensures.next,
+            c.request_field-options.ensures.value w,
+            c.request_field-pac_options.ensures.value w,
+            c.request_field-till.ensures.value w,
+            c.part_at-tgt.ensures.span w,
+            c.part_at-evidence.ensures.span w,
+            c.part_at-user.ensures.span w,
+            c.part_at-service.ensures.span w,
+            c.part_at-service.ensures.next,
           );
-      past = parts.part-at4.ensures.next;
+      past = c.part_at-service.ensures.next;
     }

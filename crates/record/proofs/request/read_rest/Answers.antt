@@ -40,7 +40,7 @@ returns-then-not-both c =
     sym (whole-found s m.result whole)
     ∙ sym (simp (c.has_ticket-2.ensures, c.has_ticket.ensures, t, e) at c.both.ensures) in
     c.refused_request-then-not-both.ensures
-    ∙ request-no s m.result c.args.kind (found ∙ not-true c.both.result c.if-not-both.true)
+    ∙ request-no s m.result c.args.kind (found ∙ c.if-not-both.true)
     ∙ rw m.ensures
 
 pub returns : goal.returns
@@ -56,4 +56,4 @@ returns c =
     let found =
     sym (whole-found s m.result whole)
     ∙ sym (simp (c.has_ticket-2.ensures, c.has_ticket.ensures, t, e) at c.both.ensures) in
-    simp (parts, t, e) (request-yes s m.result c.args.kind (found ∙ not-false c.both.result c.if-not-both.false) ∙ rw m.ensures)
+    simp (parts, t, e) (request-yes s m.result c.args.kind (found ∙ c.if-not-both.false) ∙ rw m.ensures)

@@ -10,12 +10,12 @@ overflow_add-result c = rw c.request_row-field.ensures (omega (arith, (small_at 
 
 pub returns-then-present : goal.returns-then-present
 returns-then-present c = record {
-      exact = rw (sym c.present.ensures ∙ c.if-present.true, c.request_row-field.ensures);
-      bounded = rw c.request_row-field.ensures (omega (arith, (small_at request_layout refl c.args.bit).0));
-    }
+  exact = rw (sym c.present.ensures ∙ c.if-present.true, c.request_row-field.ensures);
+  bounded = rw c.request_row-field.ensures (omega (arith, (small_at request_layout refl c.args.bit).0));
+}
 
 pub returns-else-present : goal.returns-else-present
 returns-else-present c = record {
-      exact = rw (sym c.present.ensures ∙ c.if-present.false);
-      bounded = search rules;
-    }
+  exact = rw (sym c.present.ensures ∙ c.if-present.false);
+  bounded = search rules;
+}

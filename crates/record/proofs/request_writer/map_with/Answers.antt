@@ -15,10 +15,10 @@ pub returns-in-Decide : goal.returns-in-Decide
 returns-in-Decide c =
     let a = c.args in
     let p = c.path_of in
-    map-decided a.kind a.fields _ p.result (ap (λ x. bit_or x a.fields) c.needed_bits.ensures.exact) p.ensures (ap is_decided c.enum_told-1.is)
+    map-decided a.kind a.fields _ p.result (ap (λ x. bit_or x a.fields) c.needed_bits.ensures.exact) p.ensures (ap is_decided c.in-Decide.is)
 
 pub returns-in-Refuse : goal.returns-in-Refuse
 returns-in-Refuse c =
     let a = c.args in
     let p = c.path_of in
-    map-none a.kind a.fields _ (ap (λ x. bit_or x a.fields) c.needed_bits.ensures.exact) (sym c.enum_told-in-Refuse-1.is ∙ p.ensures)
+    map-none a.kind a.fields _ (ap (λ x. bit_or x a.fields) c.needed_bits.ensures.exact) (sym c.in-Refuse.is ∙ p.ensures)

@@ -12,7 +12,5 @@ use Rattle.record.proofs.writer.put.Given as goal
 abbrev pub invariant-loop-i : goal.invariant-loop-i
 invariant-loop-i l = (l.i ≤ l.width) × (length l.out ≡ length l.initial.out) × (sets l.out l.at (big_endian l.i l.rest) ≡ sets l.initial.out l.at (big_endian l.width l.number))
 
-
 abbrev pub decreases-loop-i : goal.decreases-loop-i
 decreases-loop-i l = l.i
-

@@ -6,12 +6,12 @@ use Rattle.record.proofs.writer.put_trail.Goals as goal
 
 pub returns-then-present : goal.returns-then-present
 returns-then-present c = record {
-      put = field-there ticket_layout c.args.map 8 _ (sym c.present.ensures ∙ c.if-present.true) (wrote_then c.put-next.ensures.put c.copy.ensures.put);
-      bounded = search rules;
-    }
+  put = field-there ticket_layout c.args.map 8 _ (sym c.present.ensures ∙ c.if-present.true) (wrote_then c.put-next.ensures.put c.copy.ensures.put);
+  bounded = search rules;
+}
 
 pub returns-else-present : goal.returns-else-present
 returns-else-present c = record {
-      put = field-absent ticket_layout c.args.map 8 _ (sym c.present.ensures ∙ c.if-present.false);
-      bounded = search rules;
-    }
+  put = field-absent ticket_layout c.args.map 8 _ (sym c.present.ensures ∙ c.if-present.false);
+  bounded = search rules;
+}

@@ -7,18 +7,16 @@ use borrow.Author.Rules.{rules}
 use Rattle.record.proofs.writer.write_ticket.Goals as goal
 
 pub returns-then-not-well_formed : goal.returns-then-not-well_formed
-returns-then-not-well_formed c =
-    let a = c.args in
+returns-then-not-well_formed c = let all = (let a = c.args in
     let m = c.map_for-map in
     write-unwritable a.t a.out.now m.result m.ensures
-    (sym c.well_formed.ensures ∙ not-true c.well_formed.result c.if-not-well_formed.taken)
+    (sym c.well_formed.ensures ∙ not-true c.well_formed.result c.if-not-well_formed.taken)) in record { answer = all.0; output = all.1 }
 
 pub returns-then-out-lt-LONGEST_RECORD : goal.returns-then-out-lt-LONGEST_RECORD
-returns-then-out-lt-LONGEST_RECORD c =
-    let a = c.args in
+returns-then-out-lt-LONGEST_RECORD c = let all = (let a = c.args in
     let m = c.map_for-map in
     let w = c.well_formed in
-    write-short a.t a.out.now m.result m.ensures (sym w.ensures ∙ not-false w.result c.if-not-well_formed.left) c.if-out-lt-LONGEST_RECORD.taken
+    write-short a.t a.out.now m.result m.ensures (sym w.ensures ∙ not-false w.result c.if-not-well_formed.left) c.if-out-lt-LONGEST_RECORD.taken) in record { answer = all.0; output = all.1 }
 
 pub put_record-requires : goal.put_record-requires
 put_record-requires c =
@@ -27,10 +25,9 @@ put_record-requires c =
     (search rules, well-hops c.args.t m.result (sym w.ensures ∙ not-false w.result c.if-not-well_formed.left))
 
 pub returns : goal.returns
-returns c =
-    let a = c.args in
+returns c = let all = (let a = c.args in
     let m = c.map_for-map in
     let w = c.well_formed in
     let p = c.put_record in
     wrote-record a.t a.out.now p.last.0 m.result p.result m.ensures
-    (sym w.ensures ∙ not-false w.result c.if-not-well_formed.left) c.if-out-lt-LONGEST_RECORD.left p.ensures.bounded p.ensures.put
+    (sym w.ensures ∙ not-false w.result c.if-not-well_formed.left) c.if-out-lt-LONGEST_RECORD.left p.ensures.bounded p.ensures.put) in record { answer = all.0; output = all.1 }
