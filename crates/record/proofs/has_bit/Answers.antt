@@ -3,7 +3,6 @@ use native.Mathlib.Omega.{arith}
 use borrow.Author.Tests.{le-leb, lt-leb}
 use lib.Bits.{and_mask}
 use Rattle.definitions.specs.Fields.{has_bit}
-use borrow.Author.Rules.{rules}
 use Rattle.record.proofs.has_bit.Goals as goal
 
 pub returns-then-k-lt64 : goal.returns-then-k-lt64

@@ -1,6 +1,5 @@
 use mathlib.Core.Path.{sym}
 use Rattle.definitions.proofs.Fields.{number-two}
-use borrow.Author.Rules.{rules}
 use Rattle.record.proofs.map_of.Goals as goal
 
 pub returns : goal.returns

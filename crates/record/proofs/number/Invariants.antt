@@ -1,11 +1,6 @@
-use Prim.Native.Nat.{◌+◌, ◌^◌, ◌≤◌, ◌<◌, ◌-◌}
-use mathlib.Core.Path.{◌≡◌, refl, sym}
-use native.Mathlib.Omega.{arith}
-use native.Mathlib.Numerals.{add-one}
+use Prim.Native.Nat.{◌^◌, ◌≤◌, ◌<◌, ◌-◌}
+use mathlib.Core.Path.{◌≡◌}
 use Rattle.definitions.specs.Fields.{number_at}
-use Rattle.definitions.proofs.Fields.{digit_room, longer-number}
-use Rattle.record.proofs.Cursor.{number-none, number-whole}
-use borrow.Author.Rules.{rules}
 use Rattle.record.proofs.number.Given as goal
 
 abbrev pub invariant-loop-i : goal.invariant-loop-i

@@ -1,6 +1,5 @@
 use native.Mathlib.Omega.{arith}
 use borrow.Author.Tests.{le-leb}
-use borrow.Author.Rules.{rules}
 use Rattle.record.proofs.present.Goals as goal
 
 pub returns : goal.returns

@@ -1,7 +1,6 @@
 use mathlib.Core.Path.{sym, ◌∙◌}
 use native.Mathlib.Omega.{arith}
 use Rattle.record.proofs.Cursor.{units-few, taken-there, taken-absent}
-use borrow.Author.Rules.{rules}
 use Rattle.record.proofs.take_field.Goals as goal
 
 pub overflow_mul-result : goal.overflow_mul-result

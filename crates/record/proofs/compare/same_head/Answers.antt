@@ -1,5 +1,4 @@
 use Rattle.definitions.proofs.Equality.{decides-number, decides-bool, decides-both, decides-as, decides-by}
-use borrow.Author.Rules.{rules}
 use Rattle.record.proofs.compare.same_head.Goals as goal
 
 pub returns : goal.returns

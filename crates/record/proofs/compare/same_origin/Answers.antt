@@ -1,7 +1,6 @@
 use mathlib.Core.Path.{ap}
 use Rattle.definitions.specs.TicketRecords.{origin_map, tgt_of, evidence_of}
 use Rattle.definitions.proofs.Equality.{decides-number, decides-both, decides-as, decides-by, same-origins}
-use borrow.Author.Rules.{rules}
 use Rattle.record.proofs.compare.same_origin.Goals as goal
 
 pub returns : goal.returns

@@ -1,6 +1,5 @@
 use mathlib.Core.Path.{refl, sym}
 use Rattle.definitions.proofs.Equality.{decides-both, decides-as, decides-by, same-tickets}
-use borrow.Author.Rules.{rules}
 use Rattle.record.proofs.compare.same_ticket.Goals as goal
 
 pub returns : goal.returns

@@ -4,7 +4,6 @@ use Prim.Native.Nat.{ℕ}
 use Rattle.definitions.specs.Words.{pack_at}
 use Rattle.definitions.proofs.Equality.{decides-number, decides-both, decides-as, decides-by}
 use Rattle.definitions.proofs.Words.{pack-same}
-use borrow.Author.Rules.{rules}
 use Rattle.definitions.specs.Limits.{byte_bits}
 use Rattle.record.proofs.compare.same_trail.Goals as goal
 

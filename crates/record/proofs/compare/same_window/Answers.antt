@@ -1,6 +1,5 @@
 use Rattle.definitions.proofs.Equality.{decides-number, decides-both, decides-as, decides-by, same-windows}
 use mathlib.Core.Path.{refl, sym}
-use borrow.Author.Rules.{rules}
 use Rattle.record.proofs.compare.same_window.Goals as goal
 
 pub returns : goal.returns

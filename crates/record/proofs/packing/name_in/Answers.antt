@@ -4,7 +4,6 @@ use native.Mathlib.Nat.{add-sub_cancel_left}
 use lib.ListN.{take, drop}
 use Rattle.definitions.specs.Names.{name_of}
 use Rattle.definitions.proofs.Decisions.{part-past, part-rest}
-use borrow.Author.Rules.{rules}
 use Rattle.record.proofs.packing.name_in.Goals as goal
 
 pub returns-then-end-at : goal.returns-then-end-at

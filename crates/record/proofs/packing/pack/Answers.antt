@@ -7,7 +7,6 @@ use Rattle.definitions.specs.Limits.{byte_bits}
 use Rattle.definitions.specs.Fields.{Bytes}
 use Rattle.definitions.specs.Words.{pack_at}
 use Rattle.definitions.proofs.Words.{pack-past, pack-rest, pack-shift}
-use borrow.Author.Rules.{rules}
 use Rattle.record.proofs.packing.pack.Goals as goal
 
 -- the bytes from a position on, out of the last eight

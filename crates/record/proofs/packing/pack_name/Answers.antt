@@ -1,5 +1,4 @@
 use lib.ListN.{length}
-use borrow.Author.Rules.{rules}
 use Rattle.record.proofs.packing.pack_name.Goals as goal
 
 pub returns : goal.returns

@@ -1,11 +1,7 @@
-use Prim.Native.Nat.{◌+◌, ◌*◌, ◌^◌, ◌≤◌, ◌<◌, ◌-◌}
+use Prim.Native.Nat.{◌+◌, ◌^◌, ◌≤◌, ◌<◌, ◌-◌}
 use mathlib.Core.Path.{◌≡◌}
-use native.Mathlib.Omega.{arith}
-use lib.ListN.{get_or}
 use Rattle.definitions.specs.Limits.{byte_bits}
 use Rattle.definitions.specs.Words.{pack_at}
-use Rattle.definitions.proofs.Words.{pack-fits, pack-room, pack-step}
-use borrow.Author.Rules.{rules}
 use Rattle.record.proofs.packing.pack_some.Given as goal
 
 abbrev pub invariant-loop-i : goal.invariant-loop-i

@@ -1,7 +1,6 @@
 use mathlib.Core.Path.{sym}
 use Rattle.definitions.specs.Limits.{byte_bits}
 use Rattle.definitions.proofs.Words.{pack-split}
-use borrow.Author.Rules.{rules}
 use Rattle.record.proofs.packing.pack_whole.Goals as goal
 
 pub returns : goal.returns

@@ -1,6 +1,5 @@
 use mathlib.Core.Path.{sym}
 use Rattle.definitions.specs.TicketRecords.{hops_fit}
-use borrow.Author.Rules.{rules}
 use Rattle.record.proofs.reader.hops_fit.Goals as goal
 
 pub returns-then-present : goal.returns-then-present

@@ -1,6 +1,5 @@
 use mathlib.Core.Path.{sym}
 use Rattle.definitions.specs.TicketRecords.{origin_as}
-use borrow.Author.Rules.{rules}
 use Rattle.record.proofs.reader.origin_as.Goals as goal
 
 pub returns-then-present : goal.returns-then-present

@@ -1,7 +1,6 @@
 use mathlib.Core.Path.{sym, ◌∙◌}
 use borrow.Author.Tests.{not-true, not-false}
 use Rattle.definitions.proofs.TicketRecords.{readable-few, readable-trail, read-yes, read_no, read-unknown}
-use borrow.Author.Rules.{rules}
 use Rattle.record.proofs.reader.read_ticket.Goals as goal
 
 pub returns-then-not-known_map : goal.returns-then-not-known_map

@@ -1,11 +1,6 @@
 use Prim.Native.Nat.{◌≤◌, ◌-◌}
-use mathlib.Core.Path.{◌≡◌, refl, sym}
-use native.Mathlib.Omega.{arith}
-use native.Mathlib.Numerals.{add-one}
-use Rattle.definitions.specs.Fields.{run}
+use mathlib.Core.Path.{◌≡◌}
 use Rattle.definitions.specs.TicketRecords.{trail_of}
-use Rattle.definitions.proofs.TicketRecords.{trail-step}
-use borrow.Author.Rules.{rules}
 use Rattle.record.proofs.reader.trail_of.Given as goal
 
 abbrev pub invariant-loop-i : goal.invariant-loop-i

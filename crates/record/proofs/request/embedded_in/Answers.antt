@@ -3,7 +3,6 @@ use Prim.Native.Nat.{ℕ}
 use native.Mathlib.Nat.{add-sub_cancel_left}
 use lib.ListN.{take, drop}
 use Rattle.definitions.specs.TicketRecords.{read_ticket}
-use borrow.Author.Rules.{rules}
 use Rattle.record.proofs.request.embedded_in.Goals as goal
 
 pub returns-then-present : goal.returns-then-present

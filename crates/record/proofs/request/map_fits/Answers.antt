@@ -1,5 +1,4 @@
 use Rattle.definitions.specs.Requests.{map_fits}
-use borrow.Author.Rules.{rules}
 use Rattle.record.proofs.request.map_fits.Goals as goal
 
 pub returns : goal.returns

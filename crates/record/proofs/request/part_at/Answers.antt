@@ -2,7 +2,6 @@ use mathlib.Core.Path.{refl, sym, ◌∙◌}
 use native.Mathlib.Omega.{arith}
 use Rattle.definitions.specs.Requests.{request_layout}
 use Rattle.record.proofs.Cursor.{units-few, small_at}
-use borrow.Author.Rules.{rules}
 use Rattle.record.proofs.request.part_at.Goals as goal
 
 pub overflow_mul-len : goal.overflow_mul-len

@@ -1,5 +1,4 @@
 use mathlib.Core.Path.{sym}
-use native.Mathlib.Omega.{arith}
 use Rattle.definitions.specs.Requests.{request_layout}
 use Rattle.definitions.proofs.Fields.{offset-first}
 use borrow.Author.Rules.{rules}

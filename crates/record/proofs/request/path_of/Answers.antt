@@ -1,6 +1,5 @@
 use mathlib.Core.Path.{refl, ◌∙◌}
 use Rattle.definitions.proofs.Requests.{path-table, path-below, path-above, path-other}
-use borrow.Author.Rules.{rules}
 use Rattle.record.proofs.request.path_of.Goals as goal
 
 pub returns-in-65-to-75 : goal.returns-in-65-to-75

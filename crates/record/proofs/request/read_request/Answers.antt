@@ -1,6 +1,5 @@
 use mathlib.Core.Path.{sym, ◌∙◌}
 use Rattle.definitions.proofs.Requests.{read-along, read-refuse}
-use borrow.Author.Rules.{rules}
 use Rattle.record.proofs.request.read_request.Goals as goal
 
 pub returns-in_default : goal.returns-in_default

@@ -1,6 +1,5 @@
 use mathlib.Core.Path.{sym, ◌∙◌}
 use native.Mathlib.Omega.{arith}
-use borrow.Author.Tests.{not-true, not-false}
 use Rattle.definitions.specs.Requests.{embedded_of}
 use Rattle.definitions.proofs.Requests.{span-within, whole-found, not-whole, request-yes, request-no}
 use borrow.Author.Rules.{rules}

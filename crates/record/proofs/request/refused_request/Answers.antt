@@ -1,4 +1,3 @@
-use borrow.Author.Rules.{rules}
 use Rattle.record.proofs.request.refused_request.Goals as goal
 
 pub returns : goal.returns

@@ -1,4 +1,3 @@
-use borrow.Author.Rules.{rules}
 use Rattle.record.proofs.request_writer.lengths_fit.Goals as goal
 
 pub returns : goal.returns

@@ -2,7 +2,6 @@ use mathlib.Core.Path.{sym, ap, ◌∙◌}
 use lib.Bits.{bit_or}
 use Rattle.definitions.specs.RequestWriting.{is_decided}
 use Rattle.record.proofs.Cursor.{map-decided, map-none, map_other, map-above}
-use borrow.Author.Rules.{rules}
 use Rattle.record.proofs.request_writer.map_with.Goals as goal
 
 pub returns-then-kind-gt4 : goal.returns-then-kind-gt4

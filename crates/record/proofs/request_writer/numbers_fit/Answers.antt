@@ -1,5 +1,4 @@
 use Rattle.definitions.specs.RequestWriting.{numbers_fit}
-use borrow.Author.Rules.{rules}
 use Rattle.record.proofs.request_writer.numbers_fit.Goals as goal
 
 pub returns : goal.returns

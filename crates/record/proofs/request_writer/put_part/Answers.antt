@@ -1,6 +1,5 @@
 use mathlib.Core.Path.{refl, sym, ◌∙◌}
 use native.Mathlib.Omega.{arith}
-use lib.ListN.{length}
 use lib.Seq.{take-length}
 use Rattle.definitions.specs.Requests.{request_layout}
 use Rattle.definitions.proofs.Fields.{field-size}
@@ -23,7 +22,7 @@ returns-then-present c =
     let p = rw c.request_row-field.ensures at c.put-next.ensures.put in
     let w = field-there request_layout a.map a.bit _ (sym c.present.ensures ∙ c.if-present.true) (wrote_then p (rw take-length at c.copy.ensures.put)) in record {
       put = w;
-      past = (w.past ∙ rw field-size, c.copy.auto.0 ∙ c.put-next.auto.0);
+      past = (w.past ∙ rw field-size, c.copy.auto.out ∙ c.put-next.auto.out);
     }
 
 pub returns-else-present : goal.returns-else-present

@@ -1,6 +1,5 @@
 use Rattle.definitions.specs.RequestWriting.{request_parts}
 use Rattle.record.proofs.Cursor.{wrote-request}
-use borrow.Author.Rules.{rules}
 use Rattle.record.proofs.request_writer.put_request.Goals as goal
 
 pub returns : goal.returns

@@ -1,5 +1,4 @@
 use Rattle.record.proofs.Cursor.{wrote_then}
-use borrow.Author.Rules.{rules}
 use Rattle.record.proofs.request_writer.put_texts.Goals as goal
 
 pub returns : goal.returns

@@ -1,6 +1,5 @@
 use mathlib.Core.Path.{sym, ◌∙◌}
 use Rattle.definitions.specs.RequestWriting.{record_fits}
-use borrow.Author.Rules.{rules}
 use Rattle.record.proofs.request_writer.record_fits.Goals as goal
 
 pub returns-then-present : goal.returns-then-present

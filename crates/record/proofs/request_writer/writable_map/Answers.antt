@@ -4,7 +4,6 @@ use lib.ListN.{length}
 use Rattle.definitions.specs.Requests.{request_layout}
 use Rattle.definitions.specs.RequestWriting.{request_parts, part_values, numbers_fit, record_fits}
 use Rattle.record.proofs.Cursor.{map-writable}
-use borrow.Author.Rules.{rules}
 use Rattle.record.proofs.request_writer.writable_map.Goals as goal
 
 pub returns-then-both : goal.returns-then-both

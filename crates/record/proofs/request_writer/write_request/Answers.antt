@@ -1,9 +1,7 @@
-use mathlib.Core.Path.{sym}
 use native.Mathlib.Omega.{arith}
 use Rattle.definitions.specs.RequestWriting.{request_parts}
 use Rattle.definitions.proofs.RequestWriting.{lengths-few}
 use Rattle.record.proofs.Cursor.{map_found, none_found, size_of, request-unwritable, request-short, request-wrote}
-use borrow.Author.Rules.{rules}
 use Rattle.record.proofs.request_writer.write_request.Goals as goal
 
 pub returns-then-map-eq0 : goal.returns-then-map-eq0

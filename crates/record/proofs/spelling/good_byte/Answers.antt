@@ -1,4 +1,3 @@
-use borrow.Author.Rules.{rules}
 use Rattle.record.proofs.spelling.good_byte.Goals as goal
 
 pub returns : goal.returns

@@ -1,9 +1,6 @@
 use mathlib.Core.Path.{◌≡◌, refl, sym, ◌∙◌}
-use Prim.Native.Nat.{◌≤◌, ◌-◌}
-use mathlib.Core.Bool.{true}
 use native.Mathlib.Omega.{arith}
 use lib.ListN.{length}
-use borrow.Author.Tests.{not-true, not-false}
 use Rattle.definitions.specs.Names.{good_bytes}
 use Rattle.definitions.proofs.Names.{good_more, good-stop, good_length, good-found, good-all}
 use borrow.Author.Rules.{rules}

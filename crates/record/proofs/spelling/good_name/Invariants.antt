@@ -1,12 +1,8 @@
-use mathlib.Core.Path.{◌≡◌, refl, sym, ◌∙◌}
+use mathlib.Core.Path.{◌≡◌}
 use Prim.Native.Nat.{◌≤◌, ◌-◌}
 use mathlib.Core.Bool.{true}
-use native.Mathlib.Omega.{arith}
 use lib.ListN.{length}
-use borrow.Author.Tests.{not-true, not-false}
 use Rattle.definitions.specs.Names.{good_bytes}
-use Rattle.definitions.proofs.Names.{good_more, good-stop, good_length, good-found, good-all}
-use borrow.Author.Rules.{rules}
 use Rattle.record.proofs.spelling.good_name.Given as goal
 
 abbrev pub invariant-loop-i : goal.invariant-loop-i

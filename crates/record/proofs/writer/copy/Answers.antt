@@ -1,9 +1,9 @@
-use Prim.Native.Nat.{◌≤◌, ◌-◌}
+use Prim.Native.Nat.{◌≤◌}
 use mathlib.Core.Path.{◌≡◌, refl, sym}
 use native.Mathlib.Omega.{arith}
 use native.Mathlib.Numerals.{add-one}
-use lib.ListN.{length, take, length-set}
-use lib.Seq.{sets, length-take-le}
+use lib.ListN.{length, length-set}
+use lib.Seq.{length-take-le}
 use Rattle.record.proofs.Cursor.{copy_step}
 use borrow.Author.Rules.{rules}
 use Rattle.record.proofs.writer.copy.Goals as goal

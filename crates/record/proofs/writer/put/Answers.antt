@@ -1,8 +1,7 @@
-use Prim.Native.Nat.{suc, ◌≤◌, ◌-◌}
+use Prim.Native.Nat.{suc, ◌-◌}
 use mathlib.Core.Path.{◌≡◌, refl, ◌∙◌}
 use native.Mathlib.Omega.{arith}
-use lib.ListN.{length, length-set}
-use lib.Seq.{sets}
+use lib.ListN.{length-set}
 use Rattle.definitions.specs.Fields.{big_endian}
 use Rattle.record.proofs.Cursor.{put_step}
 use Rattle.definitions.proofs.Fields.{length-big_endian}

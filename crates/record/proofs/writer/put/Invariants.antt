@@ -1,12 +1,8 @@
-use Prim.Native.Nat.{suc, ◌≤◌, ◌-◌}
-use mathlib.Core.Path.{◌≡◌, refl, ◌∙◌}
-use native.Mathlib.Omega.{arith}
-use lib.ListN.{length, length-set}
+use Prim.Native.Nat.{◌≤◌}
+use mathlib.Core.Path.{◌≡◌}
+use lib.ListN.{length}
 use lib.Seq.{sets}
 use Rattle.definitions.specs.Fields.{big_endian}
-use Rattle.record.proofs.Cursor.{put_step}
-use Rattle.definitions.proofs.Fields.{length-big_endian}
-use borrow.Author.Rules.{rules}
 use Rattle.record.proofs.writer.put.Given as goal
 
 abbrev pub invariant-loop-i : goal.invariant-loop-i

@@ -17,9 +17,10 @@ put-requires c = rw c.ticket_row-field.ensures (omega (arith, never-falls (put_m
 pub returns-then-present : goal.returns-then-present
 returns-then-present c =
     let a = c.args in
-    let p = rw c.ticket_row-field.ensures at c.put.ensures in record {
-      put = field-there ticket_layout a.map a.bit (plain a.number) (sym c.present.ensures ∙ c.if-present.true) (wrote_then p.0 wrote_nothing);
-      bounded = (rw (add-one a.bit) (omega (arith, p.1)), omega arith);
+    let p = rw c.ticket_row-field.ensures at c.put.ensures.put in
+    let b = rw c.ticket_row-field.ensures at c.put.ensures.bounded in record {
+      put = field-there ticket_layout a.map a.bit (plain a.number) (sym c.present.ensures ∙ c.if-present.true) (wrote_then p wrote_nothing);
+      bounded = (rw (add-one a.bit) (omega (arith, b)), omega arith);
     }
 
 pub returns-else-present : goal.returns-else-present

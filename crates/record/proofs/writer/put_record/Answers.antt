@@ -1,5 +1,4 @@
-use mathlib.Core.Path.{refl, sym, ◌∙◌}
-use native.Mathlib.Omega.{arith}
+use mathlib.Core.Path.{refl, sym}
 use Rattle.definitions.specs.Fields.{bytes_to}
 use Rattle.definitions.specs.TicketRecords.{values_of, record_as}
 use Rattle.record.proofs.Cursor.{wrote_then, wrote-mark}

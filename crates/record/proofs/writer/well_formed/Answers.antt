@@ -1,5 +1,4 @@
 use Rattle.definitions.specs.TicketRecords.{well_formed}
-use borrow.Author.Rules.{rules}
 use Rattle.record.proofs.writer.well_formed.Goals as goal
 
 pub returns : goal.returns
