@@ -1,0 +1,9 @@
+use mathlib.Core.Path.{sym}
+use Rattle.definitions.specs.AccountWords.{row_word}
+use Rattle.rules.proofs.NameSearch.{word-past}
+use Rattle.rules.proofs.name.same_word.Goals as goal
+
+pub returns-then-length-k : goal.returns-then-length-k
+returns-then-length-k c =
+    let a = c.args in
+    sym (word-past a.ignore a.length a.k (row_word a.words.now a.n a.k) a.word c.if-length-k.true)
