@@ -1,0 +1,11 @@
+use mathlib.Core.Path.{◌≡◌}
+use Prim.Native.Nat.{◌%◌, ◌-◌, ◌≤◌}
+use Rattle.definitions.specs.Limits.{ticket_limit}
+use Rattle.ledger.specs.Lookups.{NoneHas}
+use Rattle.ledger.proofs.search.skip.Given as goal
+
+abbrev pub invariant-loop-i : goal.invariant-loop-i
+invariant-loop-i l = (l.i % 4 ≡ 0) × (l.i ≤ ticket_limit) × NoneHas l.words l.number l.from l.i
+
+abbrev pub decreases-loop-i : goal.decreases-loop-i
+decreases-loop-i l = ticket_limit - l.i
