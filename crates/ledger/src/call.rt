@@ -29,7 +29,7 @@ use rules::{
 
 // A fresh service, with no account set and no ticket held.
 pub fn fresh(accounts: &mut AccountWords, ledger: &mut LedgerWords)
-    ensures { record { accounts = accounts.exit.now; ledger = ledger.new } ≡ fresh_service }
+    ensures { record { accounts = accounts.new; ledger = ledger.new } ≡ fresh_service }
 {
     fresh_accounts(accounts);
     fresh_ledger(ledger);
@@ -45,7 +45,7 @@ pub fn edit(
     receive: u64,
     lifetime: u32,
 ) -> Answer
-    ensures { (l : List ℕ) → record { reply = record { answer = result; ticket = blank_ticket; output = []; cleared = 0 }; service = record { accounts = accounts.exit.now; ledger = l } } ≡ perform (record { accounts = accounts.entry.now; ledger = l }) (an-edit (edit_of number name.now flags send receive lifetime)) }
+    ensures { (l : List ℕ) → record { reply = record { answer = result; ticket = blank_ticket; output = []; cleared = 0 }; service = record { accounts = accounts.new; ledger = l } } ≡ perform (record { accounts = accounts.old; ledger = l }) (an-edit (edit_of number name.now flags send receive lifetime)) }
 {
     edit_account(accounts, number, name, flags, send, receive, lifetime)
 }
@@ -171,7 +171,7 @@ fn answer_on(
     kind: Kind,
 ) -> Replied
     requires { Path.Decide kind ≡ path_of (field_of request_layout bytes.now (map_of bytes.now) 0) (map_of bytes.now) }
-    ensures performed { record { reply = record { answer = result.answer; ticket = result.ticket; output = output.new; cleared = 0 }; service = record { accounts = accounts.exit.now; ledger = ledger.new } } ≡ perform (record { accounts = accounts.entry.now; ledger = ledger.old }) (a-request bytes.now clock output.old) }
+    ensures performed { record { reply = record { answer = result.answer; ticket = result.ticket; output = output.new; cleared = 0 }; service = record { accounts = accounts.new; ledger = ledger.new } } ≡ perform (record { accounts = accounts.old; ledger = ledger.old }) (a-request bytes.now clock output.old) }
     ensures measured { result.length ≡ length_of result.answer result.ticket }
     ensures bounded { result.length ≤ longest_record }
 {
@@ -205,7 +205,7 @@ pub fn request(
     clock: u32,
     output: &mut [u8],
 ) -> Replied
-    ensures performed { record { reply = record { answer = result.answer; ticket = result.ticket; output = output.new; cleared = 0 }; service = record { accounts = accounts.exit.now; ledger = ledger.new } } ≡ perform (record { accounts = accounts.entry.now; ledger = ledger.old }) (a-request bytes.now clock output.old) }
+    ensures performed { record { reply = record { answer = result.answer; ticket = result.ticket; output = output.new; cleared = 0 }; service = record { accounts = accounts.new; ledger = ledger.new } } ≡ perform (record { accounts = accounts.old; ledger = ledger.old }) (a-request bytes.now clock output.old) }
     ensures measured { result.length ≡ length_of result.answer result.ticket }
     ensures bounded { result.length ≤ longest_record }
 {

@@ -27,7 +27,6 @@ use Rattle.definitions.proofs.RoundTrip.{given-writable}
 use Rattle.definitions.specs.RequestWriting.{RequestParts, writable, request_of, request_written}
 use Rattle.definitions.proofs.RequestWriting.{request-short}
 use Rattle.definitions.specs.Edits.{Edit}
-use Rattle.definitions.specs.declared.decision.Decision.{Decision}
 use Rattle.definitions.specs.Answers.{edit as an-edit, request as a-request, clear as a-clearing, length_of}
 use Rattle.definitions.specs.Services.{Service, Outcome, perform}
 use Rattle.tickets.specs.declared.TicketsAnswer.{TicketsAnswer}

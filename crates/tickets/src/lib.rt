@@ -198,7 +198,7 @@ pub extern "C" fn tickets_words_match(a: u64, b: u64) -> u32
 // A fresh service, with no account set and no ticket held.
 #[unsafe(no_mangle)]
 pub extern "C" fn tickets_fresh(accounts: &mut AccountWords, ledger: &mut LedgerWords)
-    ensures { record { accounts = accounts.exit.now; ledger = ledger.new } ≡ fresh_service }
+    ensures { record { accounts = accounts.new; ledger = ledger.new } ≡ fresh_service }
 {
     ledger::fresh(accounts, ledger);
 }
@@ -236,7 +236,7 @@ pub extern "C" fn tickets_request(
     clock: u32,
     output: &mut [u8],
 ) -> TicketsAnswer
-    ensures { RequestCall (record { accounts = accounts.entry.now; ledger = ledger.old }) request.now clock output.old result output.new (record { accounts = accounts.exit.now; ledger = ledger.new }) }
+    ensures { RequestCall (record { accounts = accounts.old; ledger = ledger.old }) request.now clock output.old result output.new (record { accounts = accounts.new; ledger = ledger.new }) }
 {
     let reply = ledger::request(accounts, ledger, request, clock, output);
     let answer = reply.answer;
@@ -256,7 +256,7 @@ pub extern "C" fn tickets_clear(
     ledger: &mut LedgerWords,
     clock: u32,
 ) -> u32
-    ensures { ClearCall (record { accounts = accounts.entry.now; ledger = ledger.old }) clock result (record { accounts = accounts.exit.now; ledger = ledger.new }) }
+    ensures { ClearCall (record { accounts = accounts.old; ledger = ledger.old }) clock result (record { accounts = accounts.new; ledger = ledger.new }) }
 {
     ledger::clear(ledger, clock) as u32
 }
@@ -437,7 +437,7 @@ pub extern "C" fn tickets_save(
     output: &mut [u8],
 ) -> TicketsAnswer
     ensures answer { result ≡ written_answer (save_answer (length output.old)) }
-    ensures output { output.new ≡ save_output (record { accounts = accounts.entry.now; ledger = ledger.now }) output.old }
+    ensures output { output.new ≡ save_output (record { accounts = accounts.now; ledger = ledger.now }) output.old }
 {
     if output.len() < SAVED_SIZE {
         return error_answer(Error::KRB_ERR_RESPONSE_TOO_BIG);
@@ -458,7 +458,7 @@ pub extern "C" fn tickets_load(
     saved: &[u8],
 ) -> u32
     ensures answer { result ≡ answer_number (load_answer saved.now) }
-    ensures service { record { accounts = accounts.exit.now; ledger = ledger.new } ≡ load_service saved.now (record { accounts = accounts.entry.now; ledger = ledger.old }) }
+    ensures service { record { accounts = accounts.new; ledger = ledger.new } ≡ load_service saved.now (record { accounts = accounts.old; ledger = ledger.old }) }
 {
     if !is_loadable(saved) {
         return record::error_number(Error::KRB_ERR_GENERIC);

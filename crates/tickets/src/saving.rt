@@ -68,7 +68,7 @@ fn put_head(out: &mut [u8])
 // Puts all that the check sum is of.
 pub(crate) fn put_body(out: &mut [u8], accounts: &[u64], ledger: &[u64])
     requires { (saved_size ≤ length out.old) × (length accounts.now ≡ accounts_size) × (length ledger.now ≡ ledger_size) }
-    ensures { out.new ≡ sets out.old 0 (saved_body (record { accounts = accounts.entry.now; ledger = ledger.now })) }
+    ensures { out.new ≡ sets out.old 0 (saved_body (record { accounts = accounts.now; ledger = ledger.now })) }
 {
     put_head(out);
     put_words(out, ACCOUNTS_PLACE, accounts);
