@@ -23,9 +23,11 @@ ghost use Rattle.std.specs.Prelude.{◌≤◌};
 use definitions::{
     ACCOUNT_LIMIT, ACCOUNTS_SIZE, Descended, Error, LEDGER_SIZE, LONGEST_RECORD, Ticket, Written,
 };
+use itoa::Buffer;
 use ledger::LedgerWords;
-use libc::{STDIN_FILENO, STDOUT_FILENO};
 use rules::AccountWords;
+use std::io;
+use std::io::Read;
 
 // ---- Bytes put one after the other into a space. A byte past its end is dropped, so every position can be passed on as it comes.
 
@@ -82,19 +84,18 @@ fn put_hex(space: &mut Space, at: usize, bytes: &[u8]) -> usize {
 
 // Puts a number's decimal digits.
 fn put_decimal(space: &mut Space, at: usize, number: u64) -> usize {
-    let mut text = [0u8; 20];
-    let count = io::decimal(number, &mut text);
-    put_all(space, at, &text[..count])
+    let mut digits = Buffer::new();
+    put_all(space, at, digits.format(number).as_bytes())
 }
 
 // ---- Answers, each in one write.
 
-fn print(text: &[u8]) {
-    io::write_all(STDOUT_FILENO, text);
+fn print(rt: &impl Print, text: &[u8]) -> io::Result<()> {
+    rt.write_all(text)
 }
 
 // An error number and a value that is bytes; `-` where there are none.
-fn print_bytes(error: u32, bytes: &[u8]) {
+fn print_bytes(rt: &impl Print, error: u32, bytes: &[u8]) -> io::Result<()> {
     let mut space: Space = [0u8; 4096];
     let error_end = put_decimal(&mut space, 0, error as u64);
     let value_at = put(&mut space, error_end, b' ');
@@ -104,33 +105,33 @@ fn print_bytes(error: u32, bytes: &[u8]) {
         put_hex(&mut space, value_at, bytes)
     };
     let end = put(&mut space, value_end, b'\n');
-    print(put_before(&space, end));
+    print(rt, put_before(&space, end))
 }
 
 // An error number without a value.
-fn print_error(error: u32) {
-    print_bytes(error, b"");
+fn print_error(rt: &impl Print, error: u32) -> io::Result<()> {
+    print_bytes(rt, error, b"")
 }
 
 // A value that is a number.
-fn print_value(value: u64) {
+fn print_value(rt: &impl Print, value: u64) -> io::Result<()> {
     let mut space: Space = [0u8; 4096];
     let value_at = put_all(&mut space, 0, b"0 ");
     let value_end = put_decimal(&mut space, value_at, value);
     let end = put(&mut space, value_end, b'\n');
-    print(put_before(&space, end));
+    print(rt, put_before(&space, end))
 }
 
 // A record on a line of its own.
-fn print_record(bytes: &[u8]) {
+fn print_record(rt: &impl Print, bytes: &[u8]) -> io::Result<()> {
     let mut space: Space = [0u8; 4096];
     let value_end = put_hex(&mut space, 0, bytes);
     let end = put(&mut space, value_end, b'\n');
-    print(put_before(&space, end));
+    print(rt, put_before(&space, end))
 }
 
 // Why a line is no call.
-#[derive(Drop)]
+#[derive(Clone, Copy)]
 enum Wrong {
     Nothing,
     Long,
@@ -153,14 +154,14 @@ fn put_wrong(space: &mut Space, at: usize, wrong: Wrong) -> usize {
     }
 }
 
-fn print_wrong(line: u64, wrong: Wrong) {
+fn print_wrong(rt: &impl Print, line: u64, wrong: Wrong) -> io::Result<()> {
     let mut space: Space = [0u8; 4096];
     let line_at = put_all(&mut space, 0, b"? ");
     let line_end = put_decimal(&mut space, line_at, line);
     let wrong_at = put_all(&mut space, line_end, b": ");
     let wrong_end = put_wrong(&mut space, wrong_at, wrong);
     let end = put(&mut space, wrong_end, b'\n');
-    print(put_before(&space, end));
+    print(rt, put_before(&space, end))
 }
 
 fn is_wrong(wrong: Wrong) -> bool {
@@ -255,7 +256,7 @@ fn byte(bytes: &[u8], at: usize) -> u8 {
 }
 
 // A number, if it is one, and whether it was given.
-#[derive(Drop)]
+#[derive(Clone, Copy)]
 struct Number {
     good: bool,
     given: bool,
@@ -522,18 +523,23 @@ fn has_arguments(line: &[u8], least: usize, most: usize) -> bool {
     least <= count && count <= most
 }
 
-fn call_fresh(accounts: &mut AccountWords, ledger: &mut LedgerWords, line: &[u8]) -> Wrong {
+fn call_fresh(
+    rt: &impl Print,
+    accounts: &mut AccountWords,
+    ledger: &mut LedgerWords,
+    line: &[u8],
+) -> io::Result<Wrong> {
     if !has_arguments(line, 0, 0) {
-        return Wrong::Words;
+        return Ok(Wrong::Words);
     }
     ledger::fresh(accounts, ledger);
-    print_error(0);
-    Wrong::Nothing
+    print_error(rt, 0)?;
+    Ok(Wrong::Nothing)
 }
 
-fn call_edit(accounts: &mut AccountWords, line: &[u8]) -> Wrong {
+fn call_edit(rt: &impl Print, accounts: &mut AccountWords, line: &[u8]) -> io::Result<Wrong> {
     if !has_arguments(line, 6, 6) {
-        return Wrong::Words;
+        return Ok(Wrong::Words);
     }
     let number = number_32(line, 1);
     let flags = number_32(line, 3);
@@ -541,7 +547,7 @@ fn call_edit(accounts: &mut AccountWords, line: &[u8]) -> Wrong {
     let receive = number_64(line, 5);
     let lifetime = number_32(line, 6);
     if !all_good(number, flags, send, receive) || !lifetime.good {
-        return Wrong::Number;
+        return Ok(Wrong::Number);
     }
     let answer = ledger::edit(
         accounts,
@@ -552,71 +558,79 @@ fn call_edit(accounts: &mut AccountWords, line: &[u8]) -> Wrong {
         receive.value,
         low_32(lifetime),
     );
-    print_error(record::answer_number(answer));
-    Wrong::Nothing
+    print_error(rt, record::answer_number(answer))?;
+    Ok(Wrong::Nothing)
 }
 
 // Prints the error number, and from the output the record of a grant.
-fn print_reply(error: u32, length: usize, output: &[u8]) {
+fn print_reply(rt: &impl Print, error: u32, length: usize, output: &[u8]) -> io::Result<()> {
     if error == 0 {
-        print_bytes(0, first(output, length));
+        print_bytes(rt, 0, first(output, length))
     } else {
-        print_error(error);
+        print_error(rt, error)
     }
 }
 
 // Sends a request with this output, and prints the answer.
 fn send_to(
+    rt: &impl Print,
     accounts: &mut AccountWords,
     ledger: &mut LedgerWords,
     bytes: &[u8],
     clock: Number,
     output: &mut [u8],
-) {
+) -> io::Result<()> {
     let reply = ledger::request(accounts, ledger, bytes, low_32(clock), output);
     let answer = reply.answer;
-    print_reply(record::answer_number(answer), reply.length, output);
+    print_reply(rt, record::answer_number(answer), reply.length, output)
 }
 
 // Sends a request with an output of so many bytes, at most 64.
 fn send(
+    rt: &impl Print,
     accounts: &mut AccountWords,
     ledger: &mut LedgerWords,
     bytes: &[u8],
     clock: Number,
     length: u64,
-) {
+) -> io::Result<()> {
     let mut output = [0u8; 64];
     if length < 64 {
         let end = length as usize;
-        send_to(accounts, ledger, bytes, clock, &mut output[0..end]);
+        send_to(rt, accounts, ledger, bytes, clock, &mut output[0..end])
     } else {
-        send_to(accounts, ledger, bytes, clock, &mut output);
+        send_to(rt, accounts, ledger, bytes, clock, &mut output)
     }
 }
 
-fn call_request(accounts: &mut AccountWords, ledger: &mut LedgerWords, line: &[u8]) -> Wrong {
+fn call_request(
+    rt: &impl Print,
+    accounts: &mut AccountWords,
+    ledger: &mut LedgerWords,
+    line: &[u8],
+) -> io::Result<Wrong> {
     if !has_arguments(line, 3, 3) {
-        return Wrong::Words;
+        return Ok(Wrong::Words);
     }
     let clock = number_32(line, 1);
     let length = number_64(line, 2);
     if !clock.good || !length.good {
-        return Wrong::Number;
+        return Ok(Wrong::Number);
     }
     let mut space: Space = [0u8; 4096];
     let decoded = decode(&mut space, word(line, 3));
     if !decoded.good {
-        return Wrong::Bytes;
+        return Ok(Wrong::Bytes);
     }
     send(
+        rt,
         accounts,
         ledger,
         put_before(&space, decoded.length),
         clock,
         length.value,
-    );
-    Wrong::Nothing
+    )?;
+    Ok(Wrong::Nothing)
 }
 
 // What was written into a space.
@@ -629,6 +643,7 @@ fn written_in(space: &Space, written: Written) -> &[u8] {
 
 // Writes a request for a user, without a TGT or with one, and sends it.
 fn send_for_user(
+    rt: &impl Print,
     accounts: &mut AccountWords,
     ledger: &mut LedgerWords,
     kind: u32,
@@ -637,9 +652,9 @@ fn send_for_user(
     tgt: &[u8],
     user: &[u8],
     clock: Number,
-) -> Wrong {
+) -> io::Result<Wrong> {
     if user.len() > 255 {
-        return Wrong::Name;
+        return Ok(Wrong::Name);
     }
     let mut space: Space = [0u8; 4096];
     let fields = fields_given(options, not_given(), till);
@@ -655,12 +670,13 @@ fn send_for_user(
         fields,
         &mut space,
     );
-    send(accounts, ledger, written_in(&space, written), clock, 64);
-    Wrong::Nothing
+    send(rt, accounts, ledger, written_in(&space, written), clock, 64)?;
+    Ok(Wrong::Nothing)
 }
 
 // Writes a request to a service, without evidence or with some, and sends it.
 fn send_to_service(
+    rt: &impl Print,
     accounts: &mut AccountWords,
     ledger: &mut LedgerWords,
     kind: u32,
@@ -671,9 +687,9 @@ fn send_to_service(
     evidence: &[u8],
     service: &[u8],
     clock: Number,
-) -> Wrong {
+) -> io::Result<Wrong> {
     if service.len() > 255 {
-        return Wrong::Name;
+        return Ok(Wrong::Name);
     }
     let mut space: Space = [0u8; 4096];
     let fields = fields_given(options, pac_options, till);
@@ -689,21 +705,27 @@ fn send_to_service(
         fields,
         &mut space,
     );
-    send(accounts, ledger, written_in(&space, written), clock, 64);
-    Wrong::Nothing
+    send(rt, accounts, ledger, written_in(&space, written), clock, 64)?;
+    Ok(Wrong::Nothing)
 }
 
-fn call_initial(accounts: &mut AccountWords, ledger: &mut LedgerWords, line: &[u8]) -> Wrong {
+fn call_initial(
+    rt: &impl Print,
+    accounts: &mut AccountWords,
+    ledger: &mut LedgerWords,
+    line: &[u8],
+) -> io::Result<Wrong> {
     if !has_arguments(line, 2, 4) {
-        return Wrong::Words;
+        return Ok(Wrong::Words);
     }
     let clock = number_32(line, 1);
     let options = optional_32(line, 3);
     let till = optional_32(line, 4);
     if !all_good(clock, options, till, not_given()) {
-        return Wrong::Number;
+        return Ok(Wrong::Number);
     }
     send_for_user(
+        rt,
         accounts,
         ledger,
         1,
@@ -717,26 +739,28 @@ fn call_initial(accounts: &mut AccountWords, ledger: &mut LedgerWords, line: &[u
 
 // A request with one ticket, of kind 2 or 3.
 fn call_with_tgt(
+    rt: &impl Print,
     accounts: &mut AccountWords,
     ledger: &mut LedgerWords,
     line: &[u8],
     to_service: bool,
-) -> Wrong {
+) -> io::Result<Wrong> {
     if !has_arguments(line, 3, 5) {
-        return Wrong::Words;
+        return Ok(Wrong::Words);
     }
     let clock = number_32(line, 1);
     let tgt = number_16(line, 2);
     let options = optional_32(line, 4);
     let till = optional_32(line, 5);
     if !all_good(clock, tgt, options, till) {
-        return Wrong::Number;
+        return Ok(Wrong::Number);
     }
     let mut output: RecordBytes = [0u8; LONGEST_RECORD];
     let length = put_held(&mut output, ledger, tgt);
     let presented = record_in(&output, length);
     if to_service {
         send_to_service(
+            rt,
             accounts,
             ledger,
             2,
@@ -750,6 +774,7 @@ fn call_with_tgt(
         )
     } else {
         send_for_user(
+            rt,
             accounts,
             ledger,
             3,
@@ -771,9 +796,14 @@ fn hop_options(line: &[u8]) -> Number {
     }
 }
 
-fn call_proxy(accounts: &mut AccountWords, ledger: &mut LedgerWords, line: &[u8]) -> Wrong {
+fn call_proxy(
+    rt: &impl Print,
+    accounts: &mut AccountWords,
+    ledger: &mut LedgerWords,
+    line: &[u8],
+) -> io::Result<Wrong> {
     if !has_arguments(line, 4, 7) {
-        return Wrong::Words;
+        return Ok(Wrong::Words);
     }
     let clock = number_32(line, 1);
     let tgt = number_16(line, 2);
@@ -784,13 +814,14 @@ fn call_proxy(accounts: &mut AccountWords, ledger: &mut LedgerWords, line: &[u8]
     if !all_good(clock, tgt, evidence, options)
         || !all_good(pac_options, till, not_given(), not_given())
     {
-        return Wrong::Number;
+        return Ok(Wrong::Number);
     }
     let mut tgt_output: RecordBytes = [0u8; LONGEST_RECORD];
     let mut evidence_output: RecordBytes = [0u8; LONGEST_RECORD];
     let tgt_length = put_held(&mut tgt_output, ledger, tgt);
     let evidence_length = put_held(&mut evidence_output, ledger, evidence);
     send_to_service(
+        rt,
         accounts,
         ledger,
         4,
@@ -815,73 +846,74 @@ fn one_number(line: &[u8]) -> Wrong {
     Wrong::Nothing
 }
 
-fn call_find(accounts: &AccountWords, line: &[u8]) -> Wrong {
+fn call_find(rt: &impl Print, accounts: &AccountWords, line: &[u8]) -> io::Result<Wrong> {
     if !has_arguments(line, 1, 1) {
-        return Wrong::Words;
+        return Ok(Wrong::Words);
     }
     let number = rules::find_name(accounts, word(line, 1));
     if number < ACCOUNT_LIMIT {
-        print_value(number as u64);
+        print_value(rt, number as u64)?;
     } else {
-        print_error(record::error_number(Error::KDC_ERR_C_PRINCIPAL_UNKNOWN));
+        print_error(rt, record::error_number(Error::KDC_ERR_C_PRINCIPAL_UNKNOWN))?;
     }
-    Wrong::Nothing
+    Ok(Wrong::Nothing)
 }
 
-fn call_clear(ledger: &mut LedgerWords, line: &[u8]) -> Wrong {
+fn call_clear(rt: &impl Print, ledger: &mut LedgerWords, line: &[u8]) -> io::Result<Wrong> {
     let wrong = one_number(line);
     if !is_wrong(wrong) {
-        print_value(ledger::clear(ledger, low_32(number_32(line, 1))) as u64);
+        print_value(rt, ledger::clear(ledger, low_32(number_32(line, 1))) as u64)?;
     }
-    wrong
+    Ok(wrong)
 }
 
-fn print_descended(descended: Descended) {
+fn print_descended(rt: &impl Print, descended: Descended) -> io::Result<()> {
     match descended {
-        Descended::Steps(steps) => print_value(steps as u64),
-        Descended::Refused(error) => print_error(record::error_number(error)),
+        Descended::Steps(steps) => print_value(rt, steps as u64),
+        Descended::Refused(error) => print_error(rt, record::error_number(error)),
     }
 }
 
-fn call_descent(ledger: &LedgerWords, line: &[u8]) -> Wrong {
+fn call_descent(rt: &impl Print, ledger: &LedgerWords, line: &[u8]) -> io::Result<Wrong> {
     let wrong = one_number(line);
     if !is_wrong(wrong) {
-        print_descended(ledger::descent(ledger, low_32(number_32(line, 1))));
+        print_descended(rt, ledger::descent(ledger, low_32(number_32(line, 1))))?;
     }
-    wrong
+    Ok(wrong)
 }
 
-fn call_total(ledger: &LedgerWords, line: &[u8]) -> Wrong {
+fn call_total(rt: &impl Print, ledger: &LedgerWords, line: &[u8]) -> io::Result<Wrong> {
     if !has_arguments(line, 0, 0) {
-        return Wrong::Words;
+        return Ok(Wrong::Words);
     }
-    print_value(ledger::day_total(ledger));
-    Wrong::Nothing
+    print_value(rt, ledger::day_total(ledger))?;
+    Ok(Wrong::Nothing)
 }
 
 // Prints the record of the ticket at a place.
-fn print_ticket(ledger: &LedgerWords, place: usize) {
+fn print_ticket(rt: &impl Print, ledger: &LedgerWords, place: usize) -> io::Result<()> {
     let held = ledger::held_at(ledger, place);
     let ticket = held.ticket;
     let mut output = [0u8; LONGEST_RECORD];
     let length = record_length(ticket, &mut output);
-    print_record(first(&output, length));
+    print_record(rt, first(&output, length))
 }
 
-fn print_tickets(ledger: &LedgerWords, count: usize) {
+fn print_tickets(rt: &impl Print, ledger: &LedgerWords, count: usize) -> io::Result<()> {
     for place in 0..count {
-        print_ticket(ledger, place);
+        print_ticket(rt, ledger, place)?;
     }
+    Ok(())
 }
 
-fn call_ledger(ledger: &LedgerWords, line: &[u8]) -> Wrong {
+fn call_ledger(rt: &impl Print, ledger: &LedgerWords, line: &[u8]) -> io::Result<Wrong> {
     if !has_arguments(line, 0, 0) {
-        return Wrong::Words;
+        return Ok(Wrong::Words);
     }
     let count = ledger::count_held(ledger);
-    print_value(count as u64);
-    print_tickets(ledger, count);
-    Wrong::Nothing
+    print_value(rt, count as u64)?;
+    print_tickets(rt, ledger, count)?;
+    Ok(Wrong::Nothing)
 }
 
 #[derive(Drop)]
@@ -946,37 +978,48 @@ fn command_of(command: &[u8]) -> Command {
     plain_command(command)
 }
 
-fn call(accounts: &mut AccountWords, ledger: &mut LedgerWords, line: &[u8]) -> Wrong {
+fn call(
+    rt: &impl Print,
+    accounts: &mut AccountWords,
+    ledger: &mut LedgerWords,
+    line: &[u8],
+) -> io::Result<Wrong> {
     match command_of(word(line, 0)) {
-        Command::Fresh => call_fresh(accounts, ledger, line),
-        Command::Edit => call_edit(accounts, line),
-        Command::Find => call_find(accounts, line),
-        Command::Request => call_request(accounts, ledger, line),
-        Command::Clear => call_clear(ledger, line),
-        Command::Descent => call_descent(ledger, line),
-        Command::Total => call_total(ledger, line),
-        Command::Ledger => call_ledger(ledger, line),
-        Command::Initial => call_initial(accounts, ledger, line),
-        Command::Direct => call_with_tgt(accounts, ledger, line, true),
-        Command::S4U2self => call_with_tgt(accounts, ledger, line, false),
-        Command::Proxy => call_proxy(accounts, ledger, line),
-        Command::Unknown => Wrong::Command,
+        Command::Fresh => call_fresh(rt, accounts, ledger, line),
+        Command::Edit => call_edit(rt, accounts, line),
+        Command::Find => call_find(rt, accounts, line),
+        Command::Request => call_request(rt, accounts, ledger, line),
+        Command::Clear => call_clear(rt, ledger, line),
+        Command::Descent => call_descent(rt, ledger, line),
+        Command::Total => call_total(rt, ledger, line),
+        Command::Ledger => call_ledger(rt, ledger, line),
+        Command::Initial => call_initial(rt, accounts, ledger, line),
+        Command::Direct => call_with_tgt(rt, accounts, ledger, line, true),
+        Command::S4U2self => call_with_tgt(rt, accounts, ledger, line, false),
+        Command::Proxy => call_proxy(rt, accounts, ledger, line),
+        Command::Unknown => Ok(Wrong::Command),
     }
 }
 
 // Answers a line, unless it is empty or a comment.
-fn answer(accounts: &mut AccountWords, ledger: &mut LedgerWords, line: &[u8], number: u64) {
+fn answer(
+    rt: &impl Print,
+    accounts: &mut AccountWords,
+    ledger: &mut LedgerWords,
+    line: &[u8],
+    number: u64,
+) -> io::Result<()> {
     if line.len() == 0 || byte(line, 0) == b'#' {
-        return;
+        return Ok(());
     }
     if line.len() == 4096 {
-        print_wrong(number, Wrong::Long);
-        return;
+        return print_wrong(rt, number, Wrong::Long);
     }
-    let wrong = call(accounts, ledger, line);
+    let wrong = call(rt, accounts, ledger, line)?;
     if is_wrong(wrong) {
-        print_wrong(number, wrong);
+        print_wrong(rt, number, wrong)?;
     }
+    Ok(())
 }
 
 // ---- Lines. Input is read as it comes, up to a space of it at once; a line that is there is answered before more is asked for.
@@ -991,27 +1034,26 @@ struct Step {
 }
 
 // Asks for more input, and takes its first byte.
-fn read_more(input: &mut Space) -> Step {
-    let got = libc::read(STDIN_FILENO, input);
-    let end = io::count(got, input);
-    Step {
+fn read_more(reader: &mut impl Read, input: &mut Space) -> io::Result<Step> {
+    let end = reader.read(input)?;
+    Ok(Step {
         at: 1,
         end,
         byte: input[0],
         ended: end == 0,
-    }
+    })
 }
 
-fn next_byte(input: &mut Space, at: usize, end: usize) -> Step {
+fn next_byte(reader: &mut impl Read, input: &mut Space, at: usize, end: usize) -> io::Result<Step> {
     if at < end && at < 4096 {
-        Step {
+        Ok(Step {
             at: at + 1,
             end,
             byte: input[at],
             ended: false,
-        }
+        })
     } else {
-        read_more(input)
+        read_more(reader, input)
     }
 }
 
@@ -1024,74 +1066,90 @@ struct Line {
     ended: bool,
 }
 
-// Reads a line. Nothing says that an input ends, so the loop counts its turns down, from a number that no run uses up.
-fn read_line(line: &mut Space, input: &mut Space, from: usize, to: usize) -> Line {
+// Reads a line. Nothing says that an input ends, so the turns are bounded, by a number that no run uses up.
+fn read_line(
+    reader: &mut impl Read,
+    line: &mut Space,
+    input: &mut Space,
+    from: usize,
+    to: usize,
+) -> io::Result<Line> {
     let mut at = from;
     let mut end = to;
     let mut length: usize = 0;
-    let mut turns = u64::MAX;
-    while turns > 0 {
-        let step = next_byte(input, at, end);
+    for _ in 0..u64::MAX {
+        let step = next_byte(reader, input, at, end)?;
         at = step.at;
         end = step.end;
         if step.ended || step.byte == b'\n' {
             let ended = step.ended && length == 0;
-            return Line {
+            return Ok(Line {
                 at,
                 end,
                 length,
                 ended,
-            };
+            });
         }
         length = put(line, length, step.byte);
-        turns -= 1;
     }
-    Line {
+    Ok(Line {
         at,
         end,
         length,
         ended: true,
-    }
+    })
 }
 
 // Reads a line and answers it.
 fn serve_line(
+    rt: &impl Print,
+    reader: &mut impl Read,
     accounts: &mut AccountWords,
     ledger: &mut LedgerWords,
     input: &mut Space,
     at: usize,
     end: usize,
     number: u64,
-) -> Line {
+) -> io::Result<Line> {
     let mut space: Space = [0u8; 4096];
-    let line = read_line(&mut space, input, at, end);
+    let line = read_line(reader, &mut space, input, at, end)?;
     if line.ended {
-        return line;
+        return Ok(line);
     }
-    answer(accounts, ledger, put_before(&space, line.length), number);
-    line
+    answer(
+        rt,
+        accounts,
+        ledger,
+        put_before(&space, line.length),
+        number,
+    )?;
+    Ok(line)
 }
 
 // Reads and answers lines until the input ends.
-fn serve(accounts: &mut AccountWords, ledger: &mut LedgerWords) {
+fn serve(
+    rt: &impl Print,
+    reader: &mut impl Read,
+    accounts: &mut AccountWords,
+    ledger: &mut LedgerWords,
+) -> io::Result<()> {
     let mut input: Space = [0u8; 4096];
     let mut at: usize = 0;
     let mut end: usize = 0;
-    let mut number: u64 = 1;
-    while number < u64::MAX {
-        let line = serve_line(accounts, ledger, &mut input, at, end, number);
+    for number in 1..u64::MAX {
+        let line = serve_line(rt, reader, accounts, ledger, &mut input, at, end, number)?;
         if line.ended {
-            return;
+            return Ok(());
         }
         at = line.at;
         end = line.end;
-        number += 1;
     }
+    Ok(())
 }
 
-fn main() {
+fn main(rt: HostRuntime) -> io::Result<()> {
     let mut accounts: AccountWords = [0u64; ACCOUNTS_SIZE];
     let mut ledger: LedgerWords = [0u64; LEDGER_SIZE];
     ledger::fresh(&mut accounts, &mut ledger);
-    serve(&mut accounts, &mut ledger);
+    serve(&rt, &mut rt.reader(), &mut accounts, &mut ledger)
 }

@@ -6,17 +6,17 @@ ghost use Rattle.std.specs.Prelude.{◌+◌, ◌≤◌, length};
 
 use definitions::{ACCOUNTS_SIZE, LEDGER_SIZE, LONGEST_RECORD};
 use ledger::LedgerWords;
-use libc::STDOUT_FILENO;
 use rules::AccountWords;
+use std::io;
 
 // ---- Text on standard output.
 
-fn print(text: &[u8]) {
-    io::write_all(STDOUT_FILENO, text);
+fn print(rt: &impl Print, text: &[u8]) -> io::Result<()> {
+    rt.write_all(text)
 }
 
-fn print_decimal(number: u64) {
-    io::print_decimal(STDOUT_FILENO, number);
+fn print_decimal(rt: &impl Print, number: u64) -> io::Result<()> {
+    print!(rt; "{number}")
 }
 
 // The hexadecimal digit of the lower four bits.
@@ -25,33 +25,34 @@ fn digit(byte: u8) -> u8 {
     if low < 10 { 48 + low } else { 87 + low }
 }
 
-fn print_byte(byte: u8) {
+fn print_byte(rt: &impl Print, byte: u8) -> io::Result<()> {
     let digits = [digit(byte / 16), digit(byte)];
-    print(&digits);
+    print(rt, &digits)
 }
 
-fn print_all(bytes: &[u8]) {
+fn print_all(rt: &impl Print, bytes: &[u8]) -> io::Result<()> {
     for i in 0..bytes.len() {
-        print_byte(bytes[i]);
+        print_byte(rt, bytes[i])?;
     }
+    Ok(())
 }
 
 // Two digits a byte, or `-` where there is none.
-fn print_bytes(bytes: &[u8]) {
+fn print_bytes(rt: &impl Print, bytes: &[u8]) -> io::Result<()> {
     if bytes.len() == 0 {
-        print(b"-");
+        print(rt, b"-")
     } else {
-        print_all(bytes);
+        print_all(rt, bytes)
     }
 }
 
-fn print_line(kind: u8, error: u32, record: &[u8]) {
-    print_decimal(kind as u64);
-    print(b" ");
-    print_decimal(error as u64);
-    print(b" ");
-    print_bytes(record);
-    print(b"\n");
+fn print_line(rt: &impl Print, kind: u8, error: u32, record: &[u8]) -> io::Result<()> {
+    print_decimal(rt, kind as u64)?;
+    print(rt, b" ")?;
+    print_decimal(rt, error as u64)?;
+    print(rt, b" ")?;
+    print_bytes(rt, record)?;
+    print(rt, b"\n")
 }
 
 // ---- Requests put together in a space of 128 bytes, more than the longest of them needs (R4.1). A byte that would go
@@ -135,70 +136,110 @@ fn record_in(output: &[u8; LONGEST_RECORD], length: usize) -> &[u8] {
 
 // Makes a request and prints its line; answers the length of the record at the output's start.
 fn ask(
+    rt: &impl Print,
     accounts: &mut AccountWords,
     tickets: &mut LedgerWords,
     kind: u8,
     bytes: &[u8],
     clock: u32,
     output: &mut [u8],
-) -> usize {
+) -> io::Result<usize> {
     let reply = ledger::request(accounts, tickets, bytes, clock, output);
     let answer = reply.answer;
     let length = reply.length;
-    print_line(kind, record::answer_number(answer), first(output, length));
-    length
+    print_line(
+        rt,
+        kind,
+        record::answer_number(answer),
+        first(output, length),
+    )?;
+    Ok(length)
 }
 
 // W1: `web` asks for an initial ticket.
-fn ask_initial(accounts: &mut AccountWords, tickets: &mut LedgerWords, output: &mut [u8]) -> usize {
-    ask(accounts, tickets, 1, b"\x00\x41\x01\x03web", 1000, output)
+fn ask_initial(
+    rt: &impl Print,
+    accounts: &mut AccountWords,
+    tickets: &mut LedgerWords,
+    output: &mut [u8],
+) -> io::Result<usize> {
+    ask(
+        rt,
+        accounts,
+        tickets,
+        1,
+        b"\x00\x41\x01\x03web",
+        1000,
+        output,
+    )
 }
 
 // W2: `web` asks for a ticket of `tech` to itself.
 fn ask_self(
+    rt: &impl Print,
     accounts: &mut AccountWords,
     tickets: &mut LedgerWords,
     tgt: &[u8],
     output: &mut [u8],
-) -> usize {
+) -> io::Result<usize> {
     let mut space = [0u8; 128];
     let end = put_self(&mut space, tgt, b"tech");
-    ask(accounts, tickets, 3, put_before(&space, end), 1010, output)
+    ask(
+        rt,
+        accounts,
+        tickets,
+        3,
+        put_before(&space, end),
+        1010,
+        output,
+    )
 }
 
 // W3 and W4: `web` asks for a ticket of that user to `store`.
 fn ask_proxy(
+    rt: &impl Print,
     accounts: &mut AccountWords,
     tickets: &mut LedgerWords,
     tgt: &[u8],
     evidence: &[u8],
     clock: u32,
-) {
+) -> io::Result<()> {
     let mut space = [0u8; 128];
     let end = put_proxy(&mut space, tgt, evidence, b"store");
     let mut output = [0u8; LONGEST_RECORD];
     ask(
+        rt,
         accounts,
         tickets,
         4,
         put_before(&space, end),
         clock,
         &mut output,
-    );
+    )?;
+    Ok(())
 }
 
-fn ask_with_tgt(accounts: &mut AccountWords, tickets: &mut LedgerWords, tgt: &[u8]) {
+fn ask_with_tgt(
+    rt: &impl Print,
+    accounts: &mut AccountWords,
+    tickets: &mut LedgerWords,
+    tgt: &[u8],
+) -> io::Result<()> {
     let mut output = [0u8; LONGEST_RECORD];
-    let length = ask_self(accounts, tickets, tgt, &mut output);
+    let length = ask_self(rt, accounts, tickets, tgt, &mut output)?;
     let evidence = record_in(&output, length);
-    ask_proxy(accounts, tickets, tgt, evidence, 1020);
-    ask_proxy(accounts, tickets, tgt, evidence, 37000);
+    ask_proxy(rt, accounts, tickets, tgt, evidence, 1020)?;
+    ask_proxy(rt, accounts, tickets, tgt, evidence, 37000)
 }
 
-fn ask_all(accounts: &mut AccountWords, tickets: &mut LedgerWords) {
+fn ask_all(
+    rt: &impl Print,
+    accounts: &mut AccountWords,
+    tickets: &mut LedgerWords,
+) -> io::Result<()> {
     let mut output = [0u8; LONGEST_RECORD];
-    let length = ask_initial(accounts, tickets, &mut output);
-    ask_with_tgt(accounts, tickets, record_in(&output, length));
+    let length = ask_initial(rt, accounts, tickets, &mut output)?;
+    ask_with_tgt(rt, accounts, tickets, record_in(&output, length))
 }
 
 fn set_accounts(accounts: &mut AccountWords) {
@@ -207,10 +248,10 @@ fn set_accounts(accounts: &mut AccountWords) {
     ledger::edit(accounts, 2, b"store", 8, 0, 0, 36000);
 }
 
-fn main() {
+fn main(rt: HostRuntime) -> io::Result<()> {
     let mut accounts = [0u64; ACCOUNTS_SIZE];
     let mut tickets = [0u64; LEDGER_SIZE];
     ledger::fresh(&mut accounts, &mut tickets);
     set_accounts(&mut accounts);
-    ask_all(&mut accounts, &mut tickets);
+    ask_all(&rt, &mut accounts, &mut tickets)
 }

@@ -13,27 +13,29 @@
 // trail 8, barred 1. The files `stdin` and `stdout` come from a second implementation (harness/src/bin/record_vectors.rs).
 #![tactic(auto)]
 
-ghost use Rattle.std.specs.Prelude.{◌≤◌};
+ghost use Rattle.std.specs.Prelude.{◌≤◌, IfOk};
 
 use definitions::{Kind, Origin, Principal, Request, TRAIL_LIMIT, Ticket, Window, Written};
-use libc::{STDIN_FILENO, STDOUT_FILENO};
 use record::byte;
+use std::io;
+use std::io::Read;
 
 // ---- Text on standard output.
 
 // Bytes as they are.
-fn print(text: &[u8]) {
-    io::write_all(STDOUT_FILENO, text);
+fn print(rt: &impl Print, text: &[u8]) -> io::Result<()> {
+    rt.write_all(text)
 }
 
 // Two digits a byte, or `-` where there is none.
-fn print_bytes(bytes: &[u8]) {
+fn print_bytes(rt: &impl Print, bytes: &[u8]) -> io::Result<()> {
     if bytes.len() == 0 {
-        print(b"-");
+        print(rt, b"-")?;
     }
     for i in 0..bytes.len() {
-        io::print_hex(STDOUT_FILENO, byte(bytes, i) as u64, 2);
+        print!(rt; "{:02x}", byte(bytes, i))?;
     }
+    Ok(())
 }
 
 // The number at a place, 0 past the end.
@@ -47,27 +49,28 @@ fn number_at(numbers: &[u64], place: usize) -> u64 {
 
 // A byte of a pattern, or a number in its place: `%` stands for one in decimal, `$` for one in eight hexadecimal digits. Answers how many
 // numbers it took.
-fn print_mark(mark: u8, number: u64) -> usize
-    ensures { result ≤ 1 }
+fn print_mark(rt: &impl Print, mark: u8, number: u64) -> io::Result<usize>
+    ensures { IfOk result (λ taken. taken ≤ 1) }
 {
     if mark == b'%' {
-        io::print_decimal(STDOUT_FILENO, number);
-        return 1;
+        print!(rt; "{number}")?;
+        return Ok(1);
     }
     if mark == b'$' {
-        io::print_hex(STDOUT_FILENO, number, 8);
-        return 1;
+        print!(rt; "{number:08x}")?;
+        return Ok(1);
     }
-    print(&[mark]);
-    0
+    print(rt, &[mark])?;
+    Ok(0)
 }
 
 // A pattern with its numbers.
-fn print_filled(pattern: &[u8], numbers: &[u64]) {
+fn print_filled(rt: &impl Print, pattern: &[u8], numbers: &[u64]) -> io::Result<()> {
     let mut place: usize = 0;
     for i in 0..pattern.len() {
-        place += print_mark(byte(pattern, i), number_at(numbers, place));
+        place += print_mark(rt, byte(pattern, i), number_at(numbers, place))?;
     }
+    Ok(())
 }
 
 // ---- The bytes that a line spells. Each form of line has its words at fixed places.
@@ -182,30 +185,40 @@ fn ticket_of(line: &[u8], from: usize) -> Ticket
 // ---- The answers to `ticket`, `write`, `value` and `same`.
 
 // The origin and its back numbers, 0 where there is none; the accounts of the trail come next.
-fn print_back(origin: &[u8], tgt: u16, evidence: u16) {
-    print(origin);
-    print_filled(b" tgt=% evidence=% trail=", &[tgt as u64, evidence as u64]);
+fn print_back(rt: &impl Print, origin: &[u8], tgt: u16, evidence: u16) -> io::Result<()> {
+    print(rt, origin)?;
+    print_filled(
+        rt,
+        b" tgt=% evidence=% trail=",
+        &[tgt as u64, evidence as u64],
+    )
 }
 
 // The same for any origin.
-fn print_origin(origin: Origin) {
+fn print_origin(rt: &impl Print, origin: Origin) -> io::Result<()> {
     match origin {
-        Origin::Initial => print_back(b"initial", 0, 0),
-        Origin::Direct(tgt) => print_back(b"direct", tgt, 0),
-        Origin::S4U2self(tgt) => print_back(b"self", tgt, 0),
-        Origin::Delegated(tgt, evidence) => print_back(b"delegated", tgt, evidence),
+        Origin::Initial => print_back(rt, b"initial", 0, 0),
+        Origin::Direct(tgt) => print_back(rt, b"direct", tgt, 0),
+        Origin::S4U2self(tgt) => print_back(rt, b"self", tgt, 0),
+        Origin::Delegated(tgt, evidence) => print_back(rt, b"delegated", tgt, evidence),
     }
 }
 
 // The trail's accounts and the barred mark.
-fn print_tail(trail: [Principal; TRAIL_LIMIT], hops: u8, barred: bool) {
-    print_bytes(first(&trail, hops as usize));
-    print_filled(b" barred=%", &[barred as u64]);
+fn print_tail(
+    rt: &impl Print,
+    trail: [Principal; TRAIL_LIMIT],
+    hops: u8,
+    barred: bool,
+) -> io::Result<()> {
+    print_bytes(rt, first(&trail, hops as usize))?;
+    print_filled(rt, b" barred=%", &[barred as u64])
 }
 
 // All fields of a ticket.
-fn print_ticket(t: Ticket) {
+fn print_ticket(rt: &impl Print, t: Ticket) -> io::Result<()> {
     print_filled(
+        rt,
         b" number=% flags=$ client=% service=% start=% end=% origin=",
         &[
             t.number as u64,
@@ -215,24 +228,25 @@ fn print_ticket(t: Ticket) {
             t.window.start as u64,
             t.window.end as u64,
         ],
-    );
+    )?;
     let origin = t.origin;
-    print_origin(origin);
+    print_origin(rt, origin)?;
     let trail = t.trail;
-    print_tail(trail, t.hops, t.barred);
+    print_tail(rt, trail, t.hops, t.barred)
 }
 
 // Reads a record.
-fn answer_ticket(line: &[u8]) {
+fn answer_ticket(rt: &impl Print, line: &[u8]) -> io::Result<()> {
     let space = decode(line, 7);
     let reading = record::read_ticket(first(&space, count_spelled(line, 7)));
     let answer = reading.answer;
     let number = record::answer_number(answer);
-    io::print_decimal(STDOUT_FILENO, number as u64);
+    print!(rt; "{number}")?;
     if number == 0 {
         let ticket = reading.ticket;
-        print_ticket(ticket);
+        print_ticket(rt, ticket)?;
     }
+    Ok(())
 }
 
 // The record's length, or the refusal's number.
@@ -244,40 +258,40 @@ fn written_number(written: Written) -> u64 {
 }
 
 // The writer's answer, and the output after it.
-fn print_output(ticket: Ticket, output: &mut [u8]) {
+fn print_output(rt: &impl Print, ticket: Ticket, output: &mut [u8]) -> io::Result<()> {
     let written = record::write_ticket(ticket, output);
-    io::print_decimal(STDOUT_FILENO, written_number(written));
-    print(b" ");
-    print_bytes(output);
+    print!(rt; "{} ", written_number(written))?;
+    print_bytes(rt, output)
 }
 
 // The same for an output of so many bytes.
-fn print_written(ticket: Ticket, size: u8) {
+fn print_written(rt: &impl Print, ticket: Ticket, size: u8) -> io::Result<()> {
     let mut space = [0xEEu8; 40];
     let end = size as usize;
     if end <= 40 {
-        print_output(ticket, &mut space[0..end]);
+        print_output(rt, ticket, &mut space[0..end])?;
     }
+    Ok(())
 }
 
 // Reads a record that stands after a size, and writes its ticket.
-fn answer_write(line: &[u8]) {
+fn answer_write(rt: &impl Print, line: &[u8]) -> io::Result<()> {
     let space = decode(line, 9);
     let reading = record::read_ticket(first(&space, count_spelled(line, 9)));
     let ticket = reading.ticket;
-    print_written(ticket, spelled(line, 6));
+    print_written(rt, ticket, spelled(line, 6))
 }
 
 // Writes a ticket value that stands after a size.
-fn answer_value(line: &[u8]) {
-    print_written(ticket_of(line, 9), spelled(line, 6));
+fn answer_value(rt: &impl Print, line: &[u8]) -> io::Result<()> {
+    print_written(rt, ticket_of(line, 9), spelled(line, 6))
 }
 
 // Compares two ticket values, of 62 digits each.
-fn answer_same(line: &[u8]) {
+fn answer_same(rt: &impl Print, line: &[u8]) -> io::Result<()> {
     let left = ticket_of(line, 5);
     let right = ticket_of(line, 68);
-    io::print_decimal(STDOUT_FILENO, record::same_ticket(left, right) as u64);
+    print!(rt; "{}", record::same_ticket(left, right) as u64)
 }
 
 // ---- The answers to `request`.
@@ -293,11 +307,12 @@ fn kind_number(kind: Kind) -> u64 {
 }
 
 // All fields of a request: a ticket by its number, a name by where it starts and how many bytes it has.
-fn print_request(r: Request) {
+fn print_request(rt: &impl Print, r: Request) -> io::Result<()> {
     let kind = r.kind;
     let tgt = r.tgt;
     let evidence = r.evidence;
     print_filled(
+        rt,
         b" kind=% options=$ pac=$ till=% tgt=% evidence=% user=%+% service=%+%",
         &[
             kind_number(kind),
@@ -311,20 +326,21 @@ fn print_request(r: Request) {
             r.service.at as u64,
             r.service.len as u64,
         ],
-    );
+    )
 }
 
 // Reads a request.
-fn answer_request(line: &[u8]) {
+fn answer_request(rt: &impl Print, line: &[u8]) -> io::Result<()> {
     let space = decode(line, 8);
     let reading = record::read_request(first(&space, count_spelled(line, 8)));
     let answer = reading.answer;
     let number = record::answer_number(answer);
-    io::print_decimal(STDOUT_FILENO, number as u64);
+    print!(rt; "{number}")?;
     if number == 0 {
         let request = reading.request;
-        print_request(request);
+        print_request(rt, request)?;
     }
+    Ok(())
 }
 
 // ---- Lines.
@@ -333,53 +349,55 @@ fn answer_request(line: &[u8]) {
 type Line = [u8; 1024];
 
 // The first letter tells the form; `?` answers a line of none.
-fn answer(line: &[u8]) {
+fn answer(rt: &impl Print, line: &[u8]) -> io::Result<()> {
     match byte(line, 0) {
-        b't' => answer_ticket(line),
-        b'w' => answer_write(line),
-        b'v' => answer_value(line),
-        b's' => answer_same(line),
-        b'r' => answer_request(line),
-        _ => print(b"?"),
+        b't' => answer_ticket(rt, line),
+        b'w' => answer_write(rt, line),
+        b'v' => answer_value(rt, line),
+        b's' => answer_same(rt, line),
+        b'r' => answer_request(rt, line),
+        _ => print(rt, b"?"),
     }
 }
 
 // Prints a line and its answer.
-fn answer_line(space: &Line, length: usize) {
+fn answer_line(rt: &impl Print, space: &Line, length: usize) -> io::Result<()> {
     let line = first(space, length);
-    print(line);
-    print(b" -> ");
-    answer(line);
-    print(b"\n");
+    print(rt, line)?;
+    print(rt, b" -> ")?;
+    answer(rt, line)?;
+    print(rt, b"\n")
 }
 
 // The next byte of the input. At its end nothing is read, and the byte stays a line's end.
-fn read_byte() -> u8 {
+fn read_byte(reader: &mut impl Read) -> io::Result<u8> {
     let mut space = [b'\n'; 1];
-    libc::read(STDIN_FILENO, &mut space);
-    space[0]
+    reader.read(&mut space)?;
+    Ok(space[0])
 }
 
 // Reads a line, and answers its length.
-fn read_line(line: &mut Line) -> usize {
+fn read_line(reader: &mut impl Read, line: &mut Line) -> io::Result<usize> {
     for at in 0..1024 {
-        line[at] = read_byte();
+        line[at] = read_byte(reader)?;
         if line[at] == b'\n' {
-            return at;
+            return Ok(at);
         }
     }
-    1024
+    Ok(1024)
 }
 
 // Answers lines until one is empty, as it is at the input's end. Nothing says that an input ends, so the turns are bounded, by a number that
 // no run reaches.
-fn main() {
+fn main(rt: HostRuntime) -> io::Result<()> {
+    let mut reader = rt.reader();
     let mut line: Line = [0u8; 1024];
     for _ in 0..u64::MAX {
-        let length = read_line(&mut line);
+        let length = read_line(&mut reader, &mut line)?;
         if length == 0 {
-            return;
+            return Ok(());
         }
-        answer_line(&line, length);
+        answer_line(&rt, &line, length)?;
     }
+    Ok(())
 }
