@@ -86,6 +86,12 @@ pub const NAMES: &[Change] = &[
     change(HEADER, "uint64_t tickets_day_total(const uint64_t *ledger);", "", "tickets_day_total"),
     change(EXPORTS, "fn tickets_day_total", "fn tickets_total", "tickets_day_total"),
     change(EXPORTS, "pub extern \"C\" fn tickets_clear", "pub fn tickets_clear", "tickets_clear"),
+    change(
+        EXPORTS,
+        "#[unsafe(no_mangle)]\npub extern \"C\" fn tickets_held",
+        "pub extern \"C\" fn tickets_held",
+        "tickets_held",
+    ),
     change(RAW, "    fn tickets_day_total(ledger: *const u64) -> u64;", "", "tickets_day_total"),
 ];
 
@@ -196,5 +202,12 @@ pub const FORMS: &[Change] = &[
     ),
     change(HEADER, "#include <stddef.h>", "#include <stddef.h>\n#pragma pack(1)", "not known"),
     change(EXPORTS, "tickets_rewrite(bytes: &[u8]", "tickets_rewrite(bytes: &[u16]", "not known"),
+    change(
+        EXPORTS,
+        "#[unsafe(no_mangle)]\npub extern \"C\" fn tickets_layout",
+        "#[no_mangle]\npub extern \"C\" fn tickets_layout",
+        "not known",
+    ),
+    change(EXPORTS, "#[repr(C)]\n", "#[repr(C)]\n#[must_use]\n", "not known"),
     change(RAW, "fn tickets_words_match(a: u64", "fn tickets_words_match(a: i64", "not known"),
 ];

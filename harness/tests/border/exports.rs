@@ -6,7 +6,8 @@ use crate::words::{behind, closing, number, parts, places, words};
 use std::collections::BTreeMap;
 
 /// How an exported function begins.
-const EXPORTED: [&str; 8] = ["#", "[", "no_mangle", "]", "pub", "extern", "\"C\"", "fn"];
+const EXPORTED: [&str; 11] =
+    ["#", "[", "unsafe", "(", "no_mangle", ")", "]", "pub", "extern", "\"C\"", "fn"];
 
 /// The constants of the header that are the crates' under another name.
 const SAME: [(&str, &str); 12] = [
@@ -56,7 +57,7 @@ pub fn read(crates: &Crates) -> Side {
     side.answer = side.note(fields).unwrap_or_default();
 
     let starts = places(&crates.tickets, &EXPORTED);
-    for sign in ["no_mangle", "extern", "repr"] {
+    for sign in ["unsafe", "no_mangle", "extern", "repr"] {
         let (stands, known) = (places(&crates.tickets, &[sign]).len(), starts.len());
         if stands != if sign == "repr" { 1 } else { known } {
             side.findings.push(format!("crate: `{sign}` stands in a form that is not known"));
@@ -73,10 +74,15 @@ pub fn read(crates: &Crates) -> Side {
     side
 }
 
-/// The fields of the answer's struct.
+/// The fields of the answer's struct, which is laid out as C's are. What it derives does not matter.
 fn answer_fields(tickets: &[&str]) -> Result<Vec<Typed>, String> {
-    let start = words("#[repr(C)] pub struct TicketsAnswer");
-    let rest = behind(tickets, &start)?;
+    let mut rest = behind(tickets, &words("#[repr(C)]"))?;
+    if let ["#", "[", "derive", ..] = rest {
+        rest = &rest[closing(rest, 1)? + 1..];
+    }
+    let ["pub", "struct", "TicketsAnswer", rest @ ..] = rest else {
+        return Err("crate: the answer's struct is not known".to_string());
+    };
     let fields = parts(&rest[1..closing(rest, 0)?]);
     fields
         .into_iter()
@@ -118,11 +124,12 @@ fn exported(side: &mut Side, crates: &Crates, words: &[&str]) -> Result<(), Stri
     Ok(())
 }
 
-/// A parameter's name in the header. It is the crate's, but `record`, a word of the language of contracts,
-/// is `bytes` there.
+/// A parameter's name in the header. It is the crate's, but for the two readers: what the header calls a
+/// record or a request is `bytes` in the crate, where `record` is a word of the language of contracts.
 fn name_in_header<'t>(function: &str, name: &'t str) -> &'t str {
     match (function, name) {
         ("tickets_rewrite", "bytes") => "record",
+        ("tickets_read_request", "bytes") => "request",
         _ => name,
     }
 }
