@@ -3,10 +3,10 @@
 
 use std::collections::BTreeSet;
 use std::ffi::OsStr;
-use std::fs;
 use std::path::{Path, PathBuf};
 use std::process::Command;
 use std::sync::Mutex;
+use std::{env, fs, process};
 
 /// What each example prints.
 const EXPECTED: &str = include_str!("../../examples/morning.expected");
@@ -34,12 +34,36 @@ fn top() -> PathBuf {
 
 /// A folder of this test that is empty.
 fn emptied(name: &str) -> PathBuf {
-    let folder = Path::new(env!("CARGO_TARGET_TMPDIR")).join(name);
+    emptied_in(Path::new(env!("CARGO_TARGET_TMPDIR")), name)
+}
+
+fn emptied_in(place: &Path, name: &str) -> PathBuf {
+    let folder = place.join(name);
     if folder.exists() {
         fs::remove_dir_all(&folder).expect("the folder of an earlier run");
     }
     fs::create_dir_all(&folder).expect("a folder");
     folder
+}
+
+/// A folder to install into, which goes when the test is done. It has symbolic links then, of which `rt ci`
+/// takes none in the repository; so it lies outside of it.
+struct Outside {
+    folder: PathBuf,
+}
+
+impl Outside {
+    fn new(name: &str) -> Self {
+        let name = format!("tickets-{name}-{}", process::id());
+        Self { folder: emptied_in(&env::temp_dir(), &name) }
+    }
+}
+
+impl Drop for Outside {
+    fn drop(&mut self) {
+        // What stays there is in nobody's way.
+        let _ = fs::remove_dir_all(&self.folder);
+    }
 }
 
 /// A command whose surroundings say nothing of the library.
@@ -72,18 +96,18 @@ fn install(words: &[String]) {
 
 /// A library installed under a prefix, with what finds it there.
 struct Installed {
-    prefix: PathBuf,
+    prefix: Outside,
 }
 
 impl Installed {
     fn under(name: &str) -> Self {
-        let prefix = emptied(name);
-        install(&[format!("PREFIX={}", prefix.display())]);
+        let prefix = Outside::new(name);
+        install(&[format!("PREFIX={}", prefix.folder.display())]);
         Self { prefix }
     }
 
     fn folder(&self) -> PathBuf {
-        self.prefix.join("lib")
+        self.prefix.folder.join("lib")
     }
 
     /// A command that finds the library by pkg-config, and by the loader.
@@ -124,7 +148,8 @@ fn files(folder: &Path) -> BTreeSet<String> {
 
 #[test]
 fn what_is_installed_is_removed_again() {
-    let scratch = emptied("dest");
+    let outside = Outside::new("dest");
+    let scratch = &outside.folder;
     let destination = format!("DESTDIR={}", scratch.display());
     let words = [destination, "PREFIX=/usr".to_string(), "LIBDIR=/usr/lib64".to_string()];
     install(&words);
@@ -139,12 +164,12 @@ fn what_is_installed_is_removed_again() {
         "usr/lib64/pkgconfig/tickets.pc".to_string(),
         "usr/share/man/man3/tickets.3".to_string(),
     ];
-    assert_eq!(files(&scratch), BTreeSet::from(expected));
+    assert_eq!(files(scratch), BTreeSet::from(expected));
 
     let asked = |question: &[&str]| {
         let mut asked = command("pkg-config");
         asked.env("PKG_CONFIG_PATH", scratch.join("usr/lib64/pkgconfig"));
-        asked.env("PKG_CONFIG_SYSROOT_DIR", &scratch);
+        asked.env("PKG_CONFIG_SYSROOT_DIR", scratch);
         printed(asked.args(question).arg("tickets")).trim().to_string()
     };
     let below = scratch.display();
@@ -153,7 +178,7 @@ fn what_is_installed_is_removed_again() {
     assert_eq!(asked(&["--libs", "--static"]), format!("-L{below}/usr/lib64 -ltickets"));
 
     printed(command("make").arg("-C").arg(top()).arg("uninstall").args(words));
-    assert_eq!(files(&scratch), BTreeSet::new());
+    assert_eq!(files(scratch), BTreeSet::new());
 }
 
 #[test]
