@@ -31,7 +31,7 @@ TOOLS_harness = $(TOOLS_library) cargo python3 pkg-config readelf nm
 TOOLS_test = $(TOOLS_harness)
 TOOLS_bench = $(TOOLS_library) cargo valgrind
 TOOLS_valgrind = $(TOOLS_bench)
-TOOLS_wrong = rt
+TOOLS_wrong = rt python3
 missing = $(if $(shell command -v $(2) 2>/dev/null),,$(error make $(1) needs $(2), which is not here))
 $(foreach goal,$(or $(MAKECMDGOALS),run),$(foreach tool,$(TOOLS_$(goal)),$(call missing,$(goal),$(tool))))
 
