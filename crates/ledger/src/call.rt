@@ -52,6 +52,7 @@ pub fn edit(
 
 // The moment of a decision, where so many tickets are held and this is the stored next number. Where no number is left, it is that of a full
 // ledger, at which the same is decided.
+#[tactic(auto, unfolding(crate::specs::Lookups::moment_at))]
 fn moment_at(clock: u32, count: usize, stored: u64) -> Moment
     ensures { result ≡ moment_at clock count stored }
 {
