@@ -54,6 +54,7 @@ test: ## proves every crate, tries the wrong programs that must be refused, and 
 	@mkdir -p target
 	rt ci | tee target/ci.log
 	@if grep -Eq '^rt: ok.*, [1-9][0-9]* bad' target/ci.log; then echo 'make test: mend what BAD EDIT above names' >&2; exit 1; fi
+	@if grep -F 'only because a proof file names what the edit took away' target/ci.log; then echo 'make test: that edit shows nothing' >&2; exit 1; fi
 	@$(MAKE) --no-print-directory harness
 	@tail -n 1 target/ci.log | grep -Ex '[0-9]+ passed, 0 failed'
 

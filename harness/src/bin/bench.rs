@@ -22,6 +22,7 @@ use measure::{instructions, make_counted, repeat, times, Both, COUNT, ROUNDS};
 use std::collections::HashMap;
 use std::error::Error;
 use std::fmt::Write;
+use std::process::Command;
 use std::{env, fs};
 
 /// How the file of all rows begins.
@@ -30,6 +31,15 @@ const FILE_HEAD: &str = "\
 
 What the columns are, and where the library stands, is in docs/PERFORMANCE.md.
 ";
+
+/// The sentence that names the toolchain by which the library was made, if `rt version` tells it.
+fn toolchain() -> String {
+    let said = Command::new("rt").arg("version").output().map(|said| said.stdout).unwrap_or_default();
+    match String::from_utf8_lossy(&said).split_whitespace().next() {
+        Some(kit) => format!("\nThe library was made with {kit}.\n"),
+        None => String::new(),
+    }
+}
 
 /// The head of a table with times.
 const TIMES_HEAD: &str =
@@ -153,7 +163,8 @@ fn main() -> Result<(), Box<dyn Error>> {
     match words[..] {
         ["write", file] => {
             let tables = tables(groups, true)?;
-            fs::write(file, format!("{FILE_HEAD}{}", all_rows(&tables, TIMES_HEAD)))?;
+            let rows = all_rows(&tables, TIMES_HEAD);
+            fs::write(file, format!("{FILE_HEAD}{}{rows}", toolchain()))?;
             println!("{}\nall rows are in {file}", summary(&tables));
         }
         ["instructions"] => print!("{}", all_rows(&tables(groups, false)?, HEAD)),
