@@ -1,27 +1,28 @@
 -- Cases of windows (R5.9, R5.2), of what makes a presented ticket the held one (R5.1), and of the edges of the checks (R6.2 to R6.7), over the
 -- definitions, by evaluation.
 -- Assumes nothing.
+use Rattle.std.specs.Prelude.{Result, Ok}
 use mathlib.Core.Path.{◌≡◌, refl}
 use mathlib.Core.Bool.{true, false}
 use mathlib.Core.List.{List, [], ◌∷◌, ◌++◌, map}
 use Prim.Native.Nat.{ℕ}
 use lib.ListN.{replicate, length}
+use Rattle.definitions.specs.declared.error.Error.{Error}
 use Rattle.definitions.specs.Errors.{answer_number}
 use Rattle.definitions.specs.Validity.{not_yet, ended}
 use Rattle.definitions.specs.Equality.{same_list, same_ticket}
 use Rattle.definitions.specs.Fields.{has_bit, number_at, big_endian, run, past_field, offset_of, field_of, field_bytes, bytes_to}
-use Rattle.definitions.specs.TicketRecords.{known_map, hops_fit, readable_as, origin_as, trail_of, read_ticket, record_as}
+use Rattle.definitions.specs.TicketRecords.{known_map, hops_fit, readable_as, origin_as, trail_of, read_ticket, record_as, ticket_or_blank}
 use Rattle.definitions.specs.Requests.{map_fits, path_of, embedded_of, whole_request, request_for, read_request}
 use Rattle.definitions.specs.Accounts.{no_row, Table}
 use Rattle.definitions.specs.Names.{lower, agree, same_name, number_from}
 use Rattle.definitions.specs.Edits.{edit_of, edit_row}
-use Rattle.definitions.specs.Decisions.{tgt_checks, evidence_checks, user_checks, last_checks, hop_checks, initial_checks, direct_checks, s4u2self_checks, s4u2proxy_checks, decide_initial, decide_direct, decide_s4u2self, decide_s4u2proxy, grant, opening_checks}
+use Rattle.definitions.specs.Decisions.{tgt_checks, evidence_checks, user_checks, last_checks, hop_checks, initial_checks, direct_checks, s4u2self_checks, s4u2proxy_checks, decide_initial, decide_direct, decide_s4u2self, decide_s4u2proxy, opening_checks}
 use Rattle.definitions.specs.Routes.{classic_route, resource_route, is_permitted, has_route}
 use Rattle.definitions.specs.Windows.{initial_window, grant_window, hop_window}
 use Rattle.definitions.specs.NewTickets.{initial_ticket, direct_ticket, s4u2self_ticket, s4u2proxy_ticket}
 use Rattle.definitions.specs.HeldTickets.{holds}
 use Rattle.definitions.specs.Answers.{decide_request}
-use Rattle.definitions.specs.declared.decision.Decision.{Decision}
 use Rattle.definitions.specs.declared.window.Window.{Window}
 use Rattle.definitions.specs.declared.ticket.Origin.{Origin}
 use Rattle.definitions.specs.declared.ticket.Origin.TheVariants.{Initial, Direct, S4U2self, Delegated}
@@ -47,20 +48,20 @@ evidence end = ticket 1 0x40000000 0 1 600 end (Direct 0) [] false
 
 -- ---- The end of a ticket of each kind, by lifetime, ends and till; 0 where it is refused. The clock reads 1000
 abbrev end-1 : ℕ → List ℕ → ℕ
-end-1 life till = (decide_request (table life 9000 9000) [] 0 (request-1 nothing till tech) 1000 enough).ticket.window.end
+end-1 life till = (ticket_or_blank (decide_request (table life 9000 9000) [] 0 (request-1 nothing till tech) 1000 enough)).window.end
 
 abbrev end-2 : ℕ → ℕ → List ℕ → ℕ
 end-2 life end till =
-    (decide_request (table 9000 9000 life) (tgt end ∷ []) 1 (request-2 nothing till (tgt end) store) 1000 enough).ticket.window.end
+    (ticket_or_blank (decide_request (table 9000 9000 life) (tgt end ∷ []) 1 (request-2 nothing till (tgt end) store) 1000 enough)).window.end
 
 abbrev end-3 : ℕ → ℕ → List ℕ → ℕ
 end-3 life end till =
-    (decide_request (table 9000 life 9000) (tgt end ∷ []) 1 (request-3 nothing till (tgt end) tech) 1000 enough).ticket.window.end
+    (ticket_or_blank (decide_request (table 9000 life 9000) (tgt end ∷ []) 1 (request-3 nothing till (tgt end) tech) 1000 enough)).window.end
 
 abbrev end-4 : ℕ → ℕ → ℕ → List ℕ → ℕ
 end-4 life end evidence-end till =
-    (decide_request (table 9000 9000 life) (tgt end ∷ evidence evidence-end ∷ []) 2
-    (request-4 cname nothing till (tgt end) (evidence evidence-end) store) 1000 enough).ticket.window.end
+    (ticket_or_blank (decide_request (table 9000 9000 life) (tgt end ∷ evidence evidence-end ∷ []) 2
+    (request-4 cname nothing till (tgt end) (evidence evidence-end) store) 1000 enough)).window.end
 
 -- tills: two seconds from now, now, and far off
 abbrev soon : List ℕ
@@ -75,9 +76,9 @@ late = 0x01 ∷ 0x00 ∷ 0x03 ∷ 0xE8 ∷ []
 -- an initial ticket of `tech` at a clock reading: answer and window
 abbrev at-clock : ℕ → ℕ → List ℕ
 at-clock clock life =
-    answer_number (decide_request (table life 0 0) [] 0 (request-1 nothing nothing tech) clock enough).answer
-    ∷ (decide_request (table life 0 0) [] 0 (request-1 nothing nothing tech) clock enough).ticket.window.start
-    ∷ (decide_request (table life 0 0) [] 0 (request-1 nothing nothing tech) clock enough).ticket.window.end ∷ []
+    answer_number (decide_request (table life 0 0) [] 0 (request-1 nothing nothing tech) clock enough)
+    ∷ (ticket_or_blank (decide_request (table life 0 0) [] 0 (request-1 nothing nothing tech) clock enough)).window.start
+    ∷ (ticket_or_blank (decide_request (table life 0 0) [] 0 (request-1 nothing nothing tech) clock enough)).window.end ∷ []
 
 -- `store` asks, for `web`, to `tech`, which is a service here: a TGT, and evidence
 abbrev roles : Table
@@ -90,23 +91,23 @@ store-tgt = ticket 5 0x40400000 2 0 500 9000 Initial [] false
 abbrev store-evidence : Ticket
 store-evidence = ticket 6 0x40000000 1 2 500 9000 (S4U2self 5) [] false
 
-abbrev role : List ℕ → Decision
+abbrev role : List ℕ → Result Ticket Error
 role bytes = decide_request roles (store-tgt ∷ store-evidence ∷ []) 2 bytes 1000 enough
 
 -- the answers to a request where `tech`, `web` or `store` alone has no lifetime
 abbrev lives : List ℕ → List ℕ
 lives bytes =
-    map (λ rows. answer_number (decide_request rows (tgt 5000 ∷ evidence 5000 ∷ []) 2 bytes 1000 enough).answer)
+    map (λ rows. answer_number (decide_request rows (tgt 5000 ∷ evidence 5000 ∷ []) 2 bytes 1000 enough))
     (table 0 100 100 ∷ table 100 0 100 ∷ table 100 100 0 ∷ [])
 
 -- ---- Answers
 -- kind 2 to a service, with a TGT, by what is held
 abbrev answer-2 : List Ticket → Ticket → ℕ → ℕ
-answer-2 tickets t clock = answer_number (decide_request (table 9000 9000 9000) tickets (length tickets) (request-2 nothing nothing t store) clock enough).answer
+answer-2 tickets t clock = answer_number (decide_request (table 9000 9000 9000) tickets (length tickets) (request-2 nothing nothing t store) clock enough)
 
 -- kind 4 at a clock reading, and at 1000
 abbrev answer-4-at : Table → List Ticket → Ticket → Ticket → ℕ → ℕ
-answer-4-at rows tickets t e clock = answer_number (decide_request rows tickets (length tickets) (request-4 cname nothing nothing t e store) clock enough).answer
+answer-4-at rows tickets t e clock = answer_number (decide_request rows tickets (length tickets) (request-4 cname nothing nothing t e store) clock enough)
 
 abbrev answer-4 : Table → List Ticket → Ticket → Ticket → ℕ
 answer-4 rows tickets t e = answer-4-at rows tickets t e 1000
@@ -127,18 +128,18 @@ by-evidence start end clock =
 
 -- the window of a ticket that is granted at 700, 300 seconds before the start of what it rests on
 abbrev early : List ℕ → Window
-early bytes = (decide_request (table 9000 9000 9000) (tgt-of 1000 5000 ∷ evidence-of 1000 4000 ∷ []) 2 bytes 700 enough).ticket.window
+early bytes = (ticket_or_blank (decide_request (table 9000 9000 9000) (tgt-of 1000 5000 ∷ evidence-of 1000 4000 ∷ []) 2 bytes 700 enough)).window
 
 -- the answer then to a request with a till of 700
 abbrev early-answer : ℕ
 early-answer =
     answer_number (decide_request (table 9000 9000 9000) (tgt-of 1000 5000 ∷ []) 1
-    (request-2 nothing (0x00 ∷ 0x00 ∷ 0x02 ∷ 0xBC ∷ []) (tgt-of 1000 5000) store) 700 enough).answer
+    (request-2 nothing (0x00 ∷ 0x00 ∷ 0x02 ∷ 0xBC ∷ []) (tgt-of 1000 5000) store) 700 enough)
 
 -- kind 1 with so many tickets held and so much room
 abbrev answer-1 : ℕ → ℕ → ℕ
 answer-1 count room =
-    answer_number (decide_request (table 9000 0 0) (replicate count (tgt 0)) count (request-1 nothing nothing tech) 1000 room).answer
+    answer_number (decide_request (table 9000 0 0) (replicate count (tgt 0)) count (request-1 nothing nothing tech) 1000 room)
 
 -- tables in which one account has other flags; `store` in all of them is sent to
 abbrev flagged : ℕ → ℕ → ℕ → Table
@@ -148,10 +149,10 @@ flagged flags0 flags1 flags2 =
 
 -- an answer of kind 2 and of kind 3 in such a table
 abbrev flagged-2 : ℕ → ℕ → ℕ
-flagged-2 flags1 flags2 = answer_number (decide_request (flagged 1 flags1 flags2) (tgt 5000 ∷ []) 1 (request-2 nothing nothing (tgt 5000) store) 1000 enough).answer
+flagged-2 flags1 flags2 = answer_number (decide_request (flagged 1 flags1 flags2) (tgt 5000 ∷ []) 1 (request-2 nothing nothing (tgt 5000) store) 1000 enough)
 
 abbrev flagged-3 : ℕ → ℕ → ℕ
-flagged-3 flags0 flags1 = answer_number (decide_request (flagged flags0 flags1 1) (tgt 5000 ∷ []) 1 (request-3 nothing nothing (tgt 5000) tech) 1000 enough).answer
+flagged-3 flags0 flags1 = answer_number (decide_request (flagged flags0 flags1 1) (tgt 5000 ∷ []) 1 (request-3 nothing nothing (tgt 5000) tech) 1000 enough)
 
 abbrev flagged-4 : ℕ → ℕ → ℕ → ℕ
 flagged-4 flags0 flags1 flags2 = answer-4 (flagged flags0 flags1 flags2) (tgt 5000 ∷ evidence 5000 ∷ []) (tgt 5000) (evidence 5000)
@@ -208,10 +209,10 @@ pub record CheckCases : Type 0 where
       ≡ record { start = 700; end = 5000 } ∷ record { start = 700; end = 5000 } ∷ record { start = 700; end = 4000 } ∷ []
   pub early-11 : early-answer ≡ 11
   -- R5.3 to R5.10: client, service, origin and number of a ticket where all of them differ
-  pub role-1 : role (request-1 nothing nothing web) ≡ grant (ticket 2 0x00400000 1 0 1000 1200 Initial [] false)
-  pub role-2 : role (request-2 nothing nothing store-tgt tech) ≡ grant (ticket 2 0 2 0 1000 1100 (Direct 5) [] false)
-  pub role-3 : role (request-3 nothing nothing store-tgt web) ≡ grant (ticket 2 0 1 2 1000 1300 (S4U2self 5) [] false)
-  pub role-4 : role (request-4 cname nothing nothing store-tgt store-evidence tech) ≡ grant (ticket 2 0x40000000 1 0 1000 1100 (Delegated 5 6) (2 ∷ []) false)
+  pub role-1 : role (request-1 nothing nothing web) ≡ Ok (ticket 2 0x00400000 1 0 1000 1200 Initial [] false)
+  pub role-2 : role (request-2 nothing nothing store-tgt tech) ≡ Ok (ticket 2 0 2 0 1000 1100 (Direct 5) [] false)
+  pub role-3 : role (request-3 nothing nothing store-tgt web) ≡ Ok (ticket 2 0 1 2 1000 1300 (S4U2self 5) [] false)
+  pub role-4 : role (request-4 cname nothing nothing store-tgt store-evidence tech) ≡ Ok (ticket 2 0x40000000 1 0 1000 1100 (Delegated 5 6) (2 ∷ []) false)
   -- R5.1: equal in every field, to the first ticket of the number; what is past the list is not held
   pub equal : same_ticket one one ≡ true
   pub unequal : map (same_ticket one) unlike ++ map (λ other. same_ticket other one) unlike ≡ replicate 30 false

@@ -8,6 +8,8 @@ use mathlib.Core.Option.{Option, some, none}
 use Prim.Native.Nat.{ℕ}
 use native.Mathlib.Omega.{arith}
 use lib.ListN.{length, replicate, set, drop}
+use Rattle.std.specs.Prelude.{Option as RustOption, Some, None, Result, Ok, Err}
+use Rattle.definitions.specs.declared.error.Error.{Error}
 use Rattle.definitions.specs.Limits.{ledger_size, next_word, last_number}
 use Rattle.definitions.specs.Errors.{answer_number}
 use Rattle.definitions.specs.Equality.{same_ticket}
@@ -66,8 +68,13 @@ abbrev sign-on : ℕ → Call
 sign-on clock = request (request-1 nothing nothing tech) clock (replicate 31 0)
 
 -- what a caller sees: the answer's number, the number of a grant's ticket, and how many were taken out
+abbrev pub number_given : Result (RustOption Ticket) Error → ℕ
+number_given (Ok (Some ticket)) = ticket.number
+number_given (Ok None) = 0
+number_given (Err error) = 0
+
 abbrev seen : Reply → List ℕ
-seen reply = answer_number reply.answer ∷ reply.ticket.number ∷ reply.cleared ∷ []
+seen reply = answer_number reply.answer ∷ number_given reply.answer ∷ reply.cleared ∷ []
 
 -- 512 grants, one more, a clearing at the end of all, and a grant
 abbrev full : List Call
@@ -95,7 +102,7 @@ book-from number = record { table = accounts 0 12 8 0 0 100; notes = []; next_nu
 abbrev answered : ℕ → ℕ → ℕ
 answered held number =
     answer_number
-    (decide_request (accounts 0 12 8 0 0 100) (replicate held tgt) number (request-1 nothing nothing tech) 5 31).answer
+    (decide_request (accounts 0 12 8 0 0 100) (replicate held tgt) number (request-1 nothing nothing tech) 5 31)
 
 pub record ClearingCases : Type 0 where
   -- R7.6: a ticket stays until the clock reads its end, whatever its start

@@ -1,26 +1,27 @@
 -- Cases of grants (section 5 of the rules): whose flags, lifetime and mark count, window, trail, number, and what makes a presented ticket the
 -- held one; over the definitions, by evaluation, from the bytes of requests.
 -- Assumes nothing.
+use Rattle.std.specs.Prelude.{Result, Ok}
 use mathlib.Core.Path.{◌≡◌, refl}
 use mathlib.Core.Bool.{Bool, true, false, cond}
 use mathlib.Core.List.{List, [], ◌∷◌, ◌++◌, map}
 use Prim.Native.Nat.{ℕ, ◌+◌}
 use lib.ListN.{replicate}
+use Rattle.definitions.specs.declared.error.Error.{Error}
 use Rattle.definitions.specs.Errors.{answer_number}
 use Rattle.definitions.specs.Equality.{same_ticket}
 use Rattle.definitions.specs.Fields.{has_bit, number_at, big_endian, run, past_field, offset_of, field_of, field_bytes, bytes_to}
-use Rattle.definitions.specs.TicketRecords.{known_map, hops_fit, readable_as, origin_as, trail_of, read_ticket, record_as}
+use Rattle.definitions.specs.TicketRecords.{known_map, hops_fit, readable_as, origin_as, trail_of, read_ticket, record_as, ticket_or_blank}
 use Rattle.definitions.specs.Requests.{map_fits, path_of, embedded_of, whole_request, request_for, read_request}
 use Rattle.definitions.specs.Accounts.{no_row, Table}
 use Rattle.definitions.specs.Names.{lower, agree, same_name, number_from}
 use Rattle.definitions.specs.Edits.{edit_of, edit_row}
-use Rattle.definitions.specs.Decisions.{tgt_checks, evidence_checks, user_checks, last_checks, hop_checks, initial_checks, direct_checks, s4u2self_checks, s4u2proxy_checks, decide_initial, decide_direct, decide_s4u2self, decide_s4u2proxy, grant, opening_checks}
+use Rattle.definitions.specs.Decisions.{tgt_checks, evidence_checks, user_checks, last_checks, hop_checks, initial_checks, direct_checks, s4u2self_checks, s4u2proxy_checks, decide_initial, decide_direct, decide_s4u2self, decide_s4u2proxy, opening_checks}
 use Rattle.definitions.specs.Routes.{classic_route, resource_route, is_permitted, has_route}
 use Rattle.definitions.specs.Windows.{initial_window, grant_window, hop_window}
 use Rattle.definitions.specs.NewTickets.{initial_ticket, direct_ticket, s4u2self_ticket, s4u2proxy_ticket}
 use Rattle.definitions.specs.HeldTickets.{holds}
 use Rattle.definitions.specs.Answers.{decide_request}
-use Rattle.definitions.specs.declared.decision.Decision.{Decision}
 use Rattle.definitions.specs.declared.ticket.Origin.TheVariants.{Initial, Direct, S4U2self, Delegated}
 use Rattle.definitions.specs.declared.ticket.Ticket.{Ticket}
 use Rattle.definitions.proofs.DecisionCases.{tech, web, store}
@@ -66,31 +67,31 @@ abbrev third : Ticket
 third = ticket 9 0 2 0 0 0 Initial [] false
 
 -- a request of each kind at 1000, for `tech` or to `store`
-abbrev kind_1 : ℕ → List ℕ → Decision
+abbrev kind_1 : ℕ → List ℕ → Result Ticket Error
 kind_1 flags0 options = decide_request (table flags0 12 8 0 0) (third ∷ third ∷ third ∷ []) 3 (request-1 options nothing tech) 1000 enough
 
-abbrev kind_2 : ℕ → ℕ → Ticket → List ℕ → Decision
+abbrev kind_2 : ℕ → ℕ → Ticket → List ℕ → Result Ticket Error
 kind_2 flags1 flags2 t options = decide_request (table 2 flags1 flags2 0 0) (third ∷ t ∷ third ∷ []) 3 (request-2 options nothing t store) 1000 enough
 
-abbrev kind_3 : ℕ → ℕ → ℕ → Ticket → List ℕ → Decision
+abbrev kind_3 : ℕ → ℕ → ℕ → Ticket → List ℕ → Result Ticket Error
 kind_3 flags0 flags1 send t options =
     decide_request (table flags0 flags1 8 send 0) (third ∷ t ∷ third ∷ []) 3 (request-3 options nothing t tech) 1000 enough
 
-abbrev kind-4 : Table → List ℕ → List ℕ → Ticket → Ticket → Decision
+abbrev kind-4 : Table → List ℕ → List ℕ → Ticket → Ticket → Result Ticket Error
 kind-4 rows options pac t e = decide_request rows (third ∷ e ∷ t ∷ []) 3 (request-4 options pac nothing t e store) 1000 enough
 
 -- what each gives
-abbrev first-ticket : ℕ → Bool → Decision
-first-ticket flags mark = grant (ticket 3 flags 0 0 1000 1100 Initial [] mark)
+abbrev first-ticket : ℕ → Bool → Result Ticket Error
+first-ticket flags mark = Ok (ticket 3 flags 0 0 1000 1100 Initial [] mark)
 
-abbrev direct-ticket : ℕ → Bool → Decision
-direct-ticket flags mark = grant (ticket 3 flags 1 2 1000 1300 (Direct 5) [] mark)
+abbrev direct-ticket : ℕ → Bool → Result Ticket Error
+direct-ticket flags mark = Ok (ticket 3 flags 1 2 1000 1300 (Direct 5) [] mark)
 
-abbrev self-ticket : ℕ → Bool → Decision
-self-ticket flags mark = grant (ticket 3 flags 0 1 1000 1200 (S4U2self 5) [] mark)
+abbrev self-ticket : ℕ → Bool → Result Ticket Error
+self-ticket flags mark = Ok (ticket 3 flags 0 1 1000 1200 (S4U2self 5) [] mark)
 
-abbrev hop-ticket : ℕ → List ℕ → Bool → Decision
-hop-ticket flags trail mark = grant (ticket 3 flags 0 2 1000 1300 (Delegated 5 7) trail mark)
+abbrev hop-ticket : ℕ → List ℕ → Bool → Result Ticket Error
+hop-ticket flags trail mark = Ok (ticket 3 flags 0 2 1000 1300 (Delegated 5 7) trail mark)
 
 -- the classic route alone, and the resource route alone
 abbrev classic : Table
@@ -104,16 +105,16 @@ abbrev hopped : List ℕ → Ticket
 hopped trail = ticket 7 0x40000000 0 1 600 5000 (Delegated 5 6) trail false
 
 -- the number of an answer
-abbrev number : Decision → ℕ
-number decision = answer_number decision.answer
+abbrev number : Result Ticket Error → ℕ
+number decision = answer_number decision
 
 -- ---- Truth tables: a list for no and yes
 abbrev both : (Bool → List ℕ) → List ℕ
 both answers = answers false ++ answers true
 
 -- the flags of a grant, and 1 for its mark
-abbrev summary : Decision → ℕ
-summary decision = decision.ticket.flags + cond decision.ticket.barred 1 0
+abbrev summary : Result Ticket Error → ℕ
+summary decision = (ticket_or_blank decision).flags + cond (ticket_or_blank decision).barred 1 0
 
 -- FORWARDABLE or not, as an option and as a flag
 abbrev asking : Bool → List ℕ

@@ -1,6 +1,7 @@
 -- Cases of the ledger, its descent and total, the lent words and the plain book (sections 7 to 9 of the rules), over the definitions, by
 -- evaluation.
 -- Assumes nothing.
+use Rattle.std.specs.Prelude.{Ok, Err, Some, None}
 use mathlib.Core.Path.{◌≡◌, refl}
 use mathlib.Core.Bool.{Bool, true, false}
 use mathlib.Core.List.{List, [], ◌∷◌, ◌++◌, map}
@@ -12,7 +13,7 @@ use Rattle.definitions.specs.Errors.{answer_number}
 use Rattle.definitions.specs.Equality.{same_ticket}
 use Rattle.definitions.specs.Fields.{has_bit, number_at, big_endian, run, past_field, offset_of, field_of, field_bytes, bytes_to}
 use Rattle.definitions.specs.TicketRecords.{known_map, hops_fit, readable_as, origin_as, trail_of, read_ticket, record_as, record_of, blank_ticket}
-use Rattle.definitions.specs.Requests.{map_fits, path_of, embedded_of, whole_request, request_for, read_request}
+use Rattle.definitions.specs.Requests.{map_fits, path_of, embedded_of, whole_request, request_for, read_request, request_or_blank}
 use Rattle.definitions.specs.Accounts.{Row, no_row, account_at, no_accounts, is_barred}
 use Rattle.definitions.specs.Names.{good_bytes, good_name, lower, agree, same_name, number_from, name_taken}
 use Rattle.definitions.specs.Edits.{edit_of, edit_row, edit_checks}
@@ -32,9 +33,7 @@ use Rattle.definitions.specs.Services.{fresh_service, with_grant}
 use Rattle.definitions.specs.History.{service_after, replies_to}
 use Rattle.definitions.specs.Demand.{granted, grant_ticket}
 use Rattle.definitions.specs.LawfulDescent.{trail_list, service_in, is_delegated}
-use Rattle.definitions.specs.declared.error.Error.TheVariants.{KRB_AP_ERR_MODIFIED, KRB_ERR_GENERIC}
-use Rattle.definitions.specs.declared.error.Answer.TheVariants.{Accepted, Refused}
-use Rattle.definitions.specs.declared.descended.Descended.TheVariants as descended
+use Rattle.definitions.specs.declared.error.Error.TheVariants.{KRB_AP_ERR_MODIFIED, KRB_ERR_GENERIC, KDC_ERR_POLICY, KDC_ERR_C_PRINCIPAL_UNKNOWN}
 use Rattle.definitions.specs.declared.ticket.Origin.{Origin}
 use Rattle.definitions.specs.declared.ticket.Origin.TheVariants.{Initial, Direct, S4U2self, Delegated}
 use Rattle.definitions.specs.declared.ticket.Ticket.{Ticket}
@@ -130,7 +129,7 @@ pub record LedgerCases : Type 0 where
   pub steps : map (descent ledger) (0 ∷ 1 ∷ 2 ∷ 3 ∷ 4 ∷ 7 ∷ 12 ∷ []) ≡ some 0 ∷ some 1 ∷ some 2 ∷ some 3 ∷ some 4 ∷ some 5 ∷ some 1 ∷ []
   pub no_steps : map (descent ledger) (5 ∷ 6 ∷ 8 ∷ 9 ∷ 20 ∷ 10 ∷ 21 ∷ []) ≡ replicate 7 none
   pub long-way : descent (chain 299) 299 ≡ some 299
-  pub descents : descended none ∷ descended (some 3) ∷ [] ≡ descended.Refused KRB_AP_ERR_MODIFIED ∷ descended.Steps 3 ∷ []
+  pub descents : descended none ∷ descended (some 3) ∷ [] ≡ Err KRB_AP_ERR_MODIFIED ∷ Ok 3 ∷ []
   -- R7.5: end minus start, 0 where the end is not later
   pub totals : day_total [] ∷ day_total (timed 5 7 ∷ []) ∷ day_total (timed 7 5 ∷ []) ∷ day_total (timed 0 10 ∷ timed 9 9 ∷ timed 7 5 ∷ timed 1 4294967295 ∷ timed 5 7 ∷ []) ∷ [] ≡ 0 ∷ 2 ∷ 0 ∷ 4294967306 ∷ []
   -- R7.1, R7.3: the words hold the tickets put in, in their order; a count beyond the places reads as 512
@@ -159,21 +158,21 @@ pub record LedgerCases : Type 0 where
   pub table-length : length (table_of no_account_words) ∷ length no_account_words ∷ length no_ticket_words ∷ [] ≡ 64 ∷ 520 ∷ 2184 ∷ []
   pub free-kept : map (λ k. row_word (store_row (replicate accounts_size 9) 2 row) 2 k) (6 ∷ 7 ∷ 8 ∷ []) ≡ 9 ∷ 9 ∷ 9 ∷ []
   pub numbers-kept : map (λ place. (ticket_at (store_ticket (set (replicate ledger_size 0xFFFFFFFFFFFFFFFF) count_word 6) d) place).number) (4 ∷ 5 ∷ 6 ∷ 7 ∷ []) ≡ 0xFFFF ∷ 0xFFFF ∷ 4 ∷ 0xFFFF ∷ []
-  pub store-edit : stored_by Accepted no_account_words (edit_of 2 (0x21 ∷ 0x22 ∷ 0x23 ∷ []) 0x0F 0x3132333435363738 0x4142434445464748 0x51525354) ≡ store_row no_account_words 2 row
-  pub store-refused : stored_by (Refused KRB_ERR_GENERIC) (1 ∷ 2 ∷ []) (edit_of 0 tech 0 0 0 0) ≡ 1 ∷ 2 ∷ []
+  pub store-edit : stored_by (Ok tt) no_account_words (edit_of 2 (0x21 ∷ 0x22 ∷ 0x23 ∷ []) 0x0F 0x3132333435363738 0x4142434445464748 0x51525354) ≡ store_row no_account_words 2 row
+  pub store-refused : stored_by (Err KRB_ERR_GENERIC) (1 ∷ 2 ∷ []) (edit_of 0 tech 0 0 0 0) ≡ 1 ∷ 2 ∷ []
   -- R7.2, R7.3: a fresh service; a grant is put at the end, a refusal leaves the ledger
   pub fresh-accounts : table_of fresh_service.accounts ≡ no_accounts
   pub fresh-ledger : tickets_of fresh_service.ledger ≡ []
-  pub with-grant : with_grant Accepted no_ticket_words a ≡ store_ticket no_ticket_words a
-  pub with-refusal : with_grant (Refused KRB_ERR_GENERIC) no_ticket_words a ≡ no_ticket_words
-  pub laid-grant : laid Accepted d (replicate 32 0xAA) ≡ record_of d ++ replicate 15 0xAA
-  pub laid-refusal : laid (Refused KRB_ERR_GENERIC) d (replicate 32 0xAA) ≡ replicate 32 0xAA
+  pub with-grant : with_grant (Ok a) no_ticket_words ≡ store_ticket no_ticket_words a
+  pub with-refusal : with_grant (Err KRB_ERR_GENERIC) no_ticket_words ≡ no_ticket_words
+  pub laid-grant : laid (Ok d) (replicate 32 0xAA) ≡ record_of d ++ replicate 15 0xAA
+  pub laid-refusal : laid (Err KRB_ERR_GENERIC) (replicate 32 0xAA) ≡ replicate 32 0xAA
   -- R8.2 to R8.4: the replies, the tickets in their order, and the note of each: what was asked, and the accounts as they then were
   pub book-replies : map seen (replies empty_book calls) ≡ (0 ∷ []) ∷ (0 ∷ record_of first ++ replicate 15 0xAA) ∷ (0 ∷ []) ∷ (12 ∷ []) ∷ (6 ∷ replicate 32 0xAA) ∷ (0 ∷ record_of second ++ replicate 14 0xAA) ∷ []
-  pub book-given : map (λ (reply : Reply). reply.ticket) (replies empty_book calls) ≡ blank_ticket ∷ first ∷ blank_ticket ∷ blank_ticket ∷ blank_ticket ∷ second ∷ []
+  pub book-given : map (λ (reply : Reply). reply.answer) (replies empty_book calls) ≡ Ok None ∷ Ok (Some first) ∷ Ok None ∷ Err KDC_ERR_POLICY ∷ Err KDC_ERR_C_PRINCIPAL_UNKNOWN ∷ Ok (Some second) ∷ []
   pub book-tickets : tickets (after empty_book calls) ≡ first ∷ second ∷ []
   pub book-bars : map noted-bar (after empty_book calls).notes ≡ false ∷ true ∷ []
-  pub book-requests : map request_of (after empty_book calls).notes ≡ map (λ bytes. (read_request bytes).request) (request-1 nothing nothing tech ∷ request-1 nothing nothing tech ∷ [])
+  pub book-requests : map request_of (after empty_book calls).notes ≡ map (λ bytes. request_or_blank (read_request bytes)) (request-1 nothing nothing tech ∷ request-1 nothing nothing tech ∷ [])
   pub book-table : (after empty_book calls).table ≡ set no_accounts 0 (edit_row (edit_of 0 tech 2 0 0 100))
   pub room-fed : map seen (replies empty_book (edit (edit_of 0 tech 0 0 0 100) ∷ request (request-1 nothing nothing tech) 5 (replicate 30 0xAA) ∷ [])) ≡ (0 ∷ []) ∷ (52 ∷ replicate 30 0xAA) ∷ []
   -- R8.1, R10.3: the same calls of a service, from a fresh one on: the tickets that granted requests returned, the replies, and the words left

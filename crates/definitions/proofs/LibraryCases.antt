@@ -1,5 +1,6 @@
 -- Cases of requests that are written (R11.9), and of what is read back (R11.10), over the definitions, by evaluation.
 -- Assumes nothing.
+use Rattle.std.specs.Prelude.{Ok, Err}
 use mathlib.Core.Path.{◌≡◌, refl}
 use mathlib.Core.Bool.{true}
 use mathlib.Core.List.{List, [], ◌∷◌, ◌++◌, map}
@@ -12,7 +13,6 @@ use Rattle.definitions.specs.Requests.{map_fits, path_of}
 use Rattle.definitions.specs.RequestWriting.{RequestParts, request_parts, number_fits, numbers_fit, record_fits, writable, request_of, request_written, request_output}
 use Rattle.definitions.specs.ReadBack.{padded_name, account_fields, ticket_fields}
 use Rattle.definitions.specs.declared.error.Error.TheVariants.{KRB_ERR_RESPONSE_TOO_BIG, KRB_ERR_GENERIC}
-use Rattle.definitions.specs.declared.ticket.Written.TheVariants.{Length, Refused}
 use Rattle.definitions.proofs.RecordCases.{record-0, record-1, ticket-2, W1}
 use Rattle.definitions.proofs.DecisionCases.{tech, web, store}
 use Rattle.definitions.proofs.Cases.{W2, W3}
@@ -46,10 +46,10 @@ bad =
 
 pub record RequestsWritten : Type 0 where
   pub bytes : map request_of good ≡ their-bytes
-  pub good-answers : map (λ p. request_written p 256) good ≡ map (λ xs. Length (length xs)) their-bytes
-  pub bad-answers : map (λ p. request_written p 0) bad ≡ replicate 11 (Refused KRB_ERR_GENERIC)
-  pub room : map (request_written (asking 1 [] web)) (6 ∷ 7 ∷ []) ≡ Refused KRB_ERR_RESPONSE_TOO_BIG ∷ Length 7 ∷ []
-  pub long : map (request_written (asking 1 [] (replicate 255 0x61))) (256 ∷ 258 ∷ 259 ∷ []) ≡ Refused KRB_ERR_RESPONSE_TOO_BIG ∷ Refused KRB_ERR_RESPONSE_TOO_BIG ∷ Length 259 ∷ []
+  pub good-answers : map (λ p. request_written p 256) good ≡ map (λ xs. Ok (length xs)) their-bytes
+  pub bad-answers : map (λ p. request_written p 0) bad ≡ replicate 11 (Err KRB_ERR_GENERIC)
+  pub room : map (request_written (asking 1 [] web)) (6 ∷ 7 ∷ []) ≡ Err KRB_ERR_RESPONSE_TOO_BIG ∷ Ok 7 ∷ []
+  pub long : map (request_written (asking 1 [] (replicate 255 0x61))) (256 ∷ 258 ∷ 259 ∷ []) ≡ Err KRB_ERR_RESPONSE_TOO_BIG ∷ Err KRB_ERR_RESPONSE_TOO_BIG ∷ Ok 259 ∷ []
   pub behind : request_output (asking 1 [] web) (replicate 9 0xee) ≡ W1 ++ (0xee ∷ 0xee ∷ [])
   pub untouched : request_output (asking 1 [] web) (replicate 6 0xee) ≡ replicate 6 0xee
 

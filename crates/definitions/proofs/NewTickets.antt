@@ -12,6 +12,7 @@ use lib.Dec.{eqb, lit<}
 use mir.Syntax.{w8, w16, w32}
 use mir.Val.{Fits}
 use borrow.Author.Tests.{le-leb}
+use Rattle.definitions.specs.declared.decision.Presented.{Presented}
 use Rattle.definitions.specs.Limits.{account_limit, trail_limit}
 use Rattle.definitions.specs.Fields.{Bytes, has_bit}
 use Rattle.definitions.specs.TicketRecords.{InRange, Writable, map_for, map_of_ticket, tgt_of, evidence_of, well_formed, service_fits, hops_fit, all_zero}
@@ -30,7 +31,7 @@ use Rattle.definitions.specs.declared.account.Account.{Account}
 use Rattle.definitions.specs.declared.decision.Moment.{Moment}
 use Rattle.definitions.proofs.Windows.{MomentFits, WindowFits, grant-fits, initial-fits}
 use Rattle.definitions.specs.declared.account.Named.{Named}
-use Rattle.definitions.specs.Decisions.{Presented, window_of}
+use Rattle.definitions.specs.Decisions.{window_of}
 
 -- ---- A marked ticket is never FORWARDABLE
 pub flags-forwardable : (f i : Bool) → has_bit (flags_of f i) 30 ≡ f

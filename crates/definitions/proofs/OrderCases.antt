@@ -2,6 +2,7 @@
 -- made to fail: each alone, each together with the next, and each together with all behind it. So it is of edits (R2.9) and of the
 -- writer (R3.7) too.
 -- Assumes nothing.
+use Rattle.std.specs.Prelude.{Ok, Err}
 use mathlib.Core.Path.{◌≡◌, refl}
 use mathlib.Core.Bool.{Bool, true, false, not, ◌&&◌, cond}
 use mathlib.Core.List.{List, [], ◌∷◌, ◌++◌}
@@ -25,7 +26,6 @@ use Rattle.definitions.specs.Answers.{decide_request}
 use Rattle.definitions.specs.declared.error.Error.TheVariants.{KRB_ERR_GENERIC, KRB_ERR_RESPONSE_TOO_BIG}
 use Rattle.definitions.specs.declared.ticket.Origin.TheVariants.{Initial, Direct, S4U2self, Delegated}
 use Rattle.definitions.specs.declared.ticket.Ticket.{Ticket}
-use Rattle.definitions.specs.declared.ticket.Written.TheVariants.{Length, Refused}
 use Rattle.definitions.proofs.DecisionCases.{tech, web, store}
 use Rattle.definitions.proofs.CaseValues.{ghost, ticket, accounts, nothing, request-1, request-2, request-3, request-4, enough}
 
@@ -81,7 +81,7 @@ evidence early late other long =
 
 -- the number that a request is answered
 abbrev answered : Table → List Ticket → List ℕ → ℕ → ℕ
-answered table tickets bytes size = answer_number (decide_request table tickets (length tickets) bytes 1020 size).answer
+answered table tickets bytes size = answer_number (decide_request table tickets (length tickets) bytes 1020 size)
 
 -- the options of a hop
 abbrev cname : List ℕ
@@ -152,10 +152,10 @@ pub record Order : Type 0 where
   pub edit-12-8 : edited 1 tech 12 ≡ 12
   pub edit-60-12-8 : edited 1 tech 16 ≡ 60
   -- R3.7: an initial ticket to a service is 60 before 52; with no service it is 52, and then a record of 17 bytes
-  pub write-60-52 : written_of (ticket 0 0 1 2 0 0 Initial [] false) (enough - 1) ≡ Refused KRB_ERR_GENERIC
-  pub write-60 : written_of (ticket 0 0 1 2 0 0 Initial [] false) enough ≡ Refused KRB_ERR_GENERIC
-  pub write-52 : written_of (ticket 0 0 1 0 0 0 Initial [] false) (enough - 1) ≡ Refused KRB_ERR_RESPONSE_TOO_BIG
-  pub write-0 : written_of (ticket 0 0 1 0 0 0 Initial [] false) enough ≡ Length 17
+  pub write-60-52 : written_of (ticket 0 0 1 2 0 0 Initial [] false) (enough - 1) ≡ Err KRB_ERR_GENERIC
+  pub write-60 : written_of (ticket 0 0 1 2 0 0 Initial [] false) enough ≡ Err KRB_ERR_GENERIC
+  pub write-52 : written_of (ticket 0 0 1 0 0 0 Initial [] false) (enough - 1) ≡ Err KRB_ERR_RESPONSE_TOO_BIG
+  pub write-0 : written_of (ticket 0 0 1 0 0 0 Initial [] false) enough ≡ Ok 17
 
 pub order : Order
 unfolding same_ticket has_bit number_at big_endian run offset_of field_of field_bytes known_map hops_fit readable_as origin_as trail_of read_ticket record_as all_zero service_fits well_formed written_of map_fits path_of embedded_of whole_request request_for read_request good_bytes good_name lower agree same_name number_from name_taken edit_checks tgt_checks evidence_checks user_checks last_checks classic_route resource_route is_permitted hop_checks initial_window grant_window hop_window initial_ticket direct_ticket s4u2self_ticket s4u2proxy_ticket initial_checks direct_checks s4u2self_checks s4u2proxy_checks decide_initial decide_direct decide_s4u2self decide_s4u2proxy holds decide_request opening_checks has_route past_field bytes_to

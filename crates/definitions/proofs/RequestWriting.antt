@@ -1,5 +1,6 @@
 -- Laws of the writer of requests: the reader gives back what it wrote, and it writes again what the reader took (R4.9).
 -- Assumes nothing.
+use Rattle.std.specs.Prelude.{Ok, Option, Some, None, Err, is_some, is_ok}
 use mathlib.Core.Path.{◌≡◌, refl, sym, ap, ◌∙◌}
 use mathlib.Core.Bool.{Bool, true, false, ◌&&◌, cond, false≢true}
 use mathlib.Core.List.{List, [], ◌∷◌}
@@ -10,30 +11,29 @@ use lib.ListN.{length, take, drop}
 use lib.Dec.{ltb, eqb}
 use lib.Bits.{bit_and, bit_or, or_add_and}
 use borrow.Author.Tests.{eqb-true, eqb-false, eq-eqb, ltb-true, lt-ltb}
+use Rattle.definitions.specs.declared.request.Request.{Request}
+use Rattle.definitions.proofs.Checks.{ok_same}
+use Rattle.definitions.specs.declared.error.Error.TheVariants.{KRB_ERR_GENERIC}
 use Rattle.definitions.specs.Limits.{two32}
 use Rattle.definitions.specs.Fields.{Bytes, Layout, row, field_at, units_size, has_bit, number_at, run, map_of, offset_of, end_of, field_of, counted_of, Value, value_at, bytes_to}
-use Rattle.definitions.specs.TicketRecords.{blank_ticket, accepted, read_ticket, record_of}
-use Rattle.definitions.specs.Requests.{request_layout, needed_bits, map_fits, kind_number, kind_path, path_of, span_of, part_of, embedded_of, has_ticket, whole_request, request_as, refused_request, request_for, read_request}
-use Rattle.definitions.specs.RequestWriting.{RequestParts, map_of_parts, counted, part_values, number_fits, numbers_fit, record_fits, is_decided, writable, request_of, parts_read, with_map, PartsAreBytes}
-use Rattle.definitions.specs.declared.error.Answer.TheVariants.{Accepted}
+use Rattle.definitions.specs.TicketRecords.{blank_ticket, read_ticket, record_of, ticket_or_blank}
+use Rattle.definitions.specs.Requests.{request_layout, needed_bits, map_fits, kind_number, kind_path, path_of, span_of, part_of, embedded_of, whole_request, request_as, request_for, read_request}
+use Rattle.definitions.specs.RequestWriting.{RequestParts, map_of_parts, counted, part_values, number_fits, numbers_fit, record_fits, writable, request_of, parts_read, with_map, PartsAreBytes}
 use Rattle.definitions.specs.declared.request.Kind.{Kind}
 use Rattle.definitions.specs.declared.request.Kind.TheVariants.{Initial, Direct, S4U2self, S4U2proxy}
-use Rattle.definitions.specs.declared.request.Path.{Path}
-use Rattle.definitions.specs.declared.request.Path.TheVariants.{Decide, Refuse}
-use Rattle.definitions.specs.declared.request.RequestReading.{RequestReading}
 use Rattle.definitions.proofs.Bools.{and_left, and_right}
 use Rattle.definitions.proofs.Fields.{length_run, field_fits, run_take, bytes_take, values_in, value_read, bytes-written, Fit, AllFit, offset-back, field_back, counted_back, map_back, length_most}
 use Rattle.definitions.proofs.RoundTrip.{also, kept-or-zero, plain_fits, written-again}
-use Rattle.definitions.proofs.Requests.{allowed-small, fits-most, span-within, whole_length, accepted-reading, bytes_drop}
+use Rattle.definitions.proofs.Requests.{allowed-small, fits-most, span-within, whole_length, bytes_drop, ticket-read}
 
 -- ---- Kind and map
 -- the kind of a number, and its number again
 record KindOf (number : ℕ) : Type 0 where
   kind : Kind
-  path : kind_path number ≡ Decide kind
+  path : kind_path number ≡ Some kind
   back : kind_number kind ≡ number
 
-kind-of : (k : ℕ) → is_decided (kind_path k) ≡ true → KindOf k
+kind-of : (k : ℕ) → is_some (kind_path k) ≡ true → KindOf k
 kind-of zero h = absurd (false≢true h)
 kind-of (suc zero) h = record { kind = Initial; path = refl; back = refl }
 kind-of (suc (suc zero)) h = record { kind = Direct; path = refl; back = refl }
@@ -45,14 +45,14 @@ kind-of (suc (suc (suc (suc (suc k))))) h = absurd (false≢true h)
 record Decided (number map : ℕ) : Type 0 where
   fits : map_fits number map ≡ true
   kind : Kind
-  path : path_of number map ≡ Decide kind
+  path : path_of number map ≡ Some kind
   back : kind_number kind ≡ number
 
-decided : (k m : ℕ) → is_decided (path_of k m) ≡ true → Decided k m
+decided : (k m : ℕ) → is_some (path_of k m) ≡ true → Decided k m
 unfolding path_of
 decided k m h = by (map_fits k m) refl h
   where
-    by : (q : Bool) → map_fits k m ≡ q → is_decided (cond q (kind_path k) Refuse) ≡ true → Decided k m
+    by : (q : Bool) → map_fits k m ≡ q → is_some (cond q (kind_path k) None) ≡ true → Decided k m
     by true e g =
         let d = kind-of k g in
         record { fits = e; kind = d.kind; path = rw e d.path; back = d.back }
@@ -140,33 +140,34 @@ part-counted s m k l h = by (has_bit m k) (span-within s m k l h)
         rw e
 
 -- the ticket of a field whose record is known
-embedded-as : (s : List ℕ) (m k : ℕ) (xs : List ℕ) → part_of s (span_of s m k) ≡ xs → embedded_of s m k ≡ cond (has_bit m k) (read_ticket xs) (accepted blank_ticket)
+embedded-as : (s : List ℕ) (m k : ℕ) (xs : List ℕ) → part_of s (span_of s m k) ≡ xs → embedded_of s m k ≡ cond (has_bit m k) (read_ticket xs) (Ok blank_ticket)
 unfolding embedded_of
 embedded-as s m k xs e = rw e
 
 -- it is a ticket exactly where the writer takes the record
-ticket-fits : (s : List ℕ) (m k : ℕ) (xs : List ℕ) → part_of s (span_of s m k) ≡ xs → has_ticket (embedded_of s m k) ≡ record_fits m k xs
+ticket-fits : (s : List ℕ) (m k : ℕ) (xs : List ℕ) → part_of s (span_of s m k) ≡ xs → is_ok (embedded_of s m k) ≡ record_fits m k xs
 unfolding record_fits
 ticket-fits s m k xs e = rw (embedded-as s m k xs e) (by (has_bit m k))
   where
-    by : (q : Bool) → has_ticket (cond q (read_ticket xs) (accepted blank_ticket)) ≡ cond q (has_ticket (read_ticket xs)) true
+    by : (q : Bool) → is_ok (cond q (read_ticket xs) (Ok blank_ticket)) ≡ cond q (is_ok (read_ticket xs)) true
     by true = refl
     by false = refl
 
 -- its record is what was read
-record-again : (s : List ℕ) (m k : ℕ) (xs : List ℕ) → Bytes xs → part_of s (span_of s m k) ≡ xs → has_ticket (embedded_of s m k) ≡ true
-    → cond (has_bit m k) (record_of (embedded_of s m k).ticket) [] ≡ cond (has_bit m k) xs []
+record-again : (s : List ℕ) (m k : ℕ) (xs : List ℕ) → Bytes xs → part_of s (span_of s m k) ≡ xs → is_ok (embedded_of s m k) ≡ true
+    → cond (has_bit m k) (record_of (ticket_or_blank (embedded_of s m k))) [] ≡ cond (has_bit m k) xs []
 record-again s m k xs b e h = rw (embedded-as s m k xs e) (by (has_bit m k) (rw (embedded-as s m k xs e) at h))
   where
-    by : (q : Bool) → has_ticket (cond q (read_ticket xs) (accepted blank_ticket)) ≡ true
-        → cond q (record_of (cond q (read_ticket xs) (accepted blank_ticket)).ticket) [] ≡ cond q xs []
-    by true g = written-again xs b (read_ticket xs).ticket (accepted-reading (read_ticket xs) g)
+    by : (q : Bool) → is_ok (cond q (read_ticket xs) (Ok blank_ticket)) ≡ true
+        → cond q (record_of (ticket_or_blank (cond q (read_ticket xs) (Ok blank_ticket)))) [] ≡ cond q xs []
+    by true g = written-again xs b (ticket_or_blank (read_ticket xs)) (ticket-read (read_ticket xs) g)
     by false g = refl
 
 -- ---- The reader gives back what was written
 pub record ReadBack (parts : RequestParts) : Type 0 where
-  pub taken : (read_request (request_of parts)).answer ≡ Accepted
-  pub given : parts_read (request_of parts) (read_request (request_of parts)).request ≡ with_map parts
+  pub request : Request
+  pub taken : read_request (request_of parts) ≡ Ok request
+  pub given : parts_read (request_of parts) request ≡ with_map parts
 
 -- what makes parts writable
 record Good (parts : RequestParts) : Type 0 where
@@ -179,7 +180,7 @@ good-parts : (p : RequestParts) → writable p ≡ true → Good p
 unfolding writable
 good-parts p w =
     let m = map_of_parts p in
-    let d = is_decided (path_of p.kind m) in
+    let d = is_some (path_of p.kind m) in
     let n = numbers_fit request_layout m (part_values p) (length request_layout) in
     let r = and_right d _ w in
     let t = and_right n _ r in
@@ -256,13 +257,13 @@ module _ (p : RequestParts) (b : PartsAreBytes p) (g : Good p) where
         g.evidence,
       )
 
-  reading : read_request written ≡ record { answer = Accepted; request = request_as written map g.path.kind }
+  reading : read_request written ≡ Ok (request_as written map g.path.kind)
   unfolding read_request request_for
   reading = rw (map_read, number_read 0 (omega arith), g.path.path, whole-read)
 
-  ticket-read : (k : ℕ) → k < 8 → (xs : List ℕ) → Bytes xs → value_at (part_values p) k ≡ counted xs → record_fits map k xs ≡ true
-      → cond (has_bit (map_of written) k) (record_of (embedded_of written map k).ticket) [] ≡ xs
-  ticket-read k l xs c e r =
+  record-read : (k : ℕ) → k < 8 → (xs : List ℕ) → Bytes xs → value_at (part_values p) k ≡ counted xs → record_fits map k xs ≡ true
+      → cond (has_bit (map_of written) k) (record_of (ticket_or_blank (embedded_of written map k))) [] ≡ xs
+  record-read k l xs c e r =
       rw map_read
       (record-again written map k xs c (part-read k l xs e) (ticket-fits written map k xs (part-read k l xs e) ∙ r)
       ∙ fits-bytes request_layout map k xs (rw e at (g.fits k l)))
@@ -275,8 +276,8 @@ module _ (p : RequestParts) (b : PartsAreBytes p) (g : Good p) where
         options = number_read 1 (omega arith) i;
         pac_options = number_read 2 (omega arith) i;
         till = number_read 3 (omega arith) i;
-        tgt = ticket-read 4 (omega arith) p.tgt b.tgt refl g.tgt i;
-        evidence = ticket-read 5 (omega arith) p.evidence b.evidence refl g.evidence i;
+        tgt = record-read 4 (omega arith) p.tgt b.tgt refl g.tgt i;
+        evidence = record-read 5 (omega arith) p.evidence b.evidence refl g.evidence i;
         user = part-read 6 (omega arith) p.user refl i;
         service = part-read 7 (omega arith) p.service refl i;
         fields = map_read i;
@@ -287,39 +288,36 @@ pub request-read : (p : RequestParts) → PartsAreBytes p → writable p ≡ tru
 unfolding request_of
 request-read p b w =
     let g = good-parts p w in
-    record {
-      taken = ap (λ (r : RequestReading). r.answer) (reading p b g);
-      given = ap (λ (r : RequestReading). parts_read (written p b g) r.request) (reading p b g) ∙ parts-read p b g;
-    }
+    record { request = _; taken = reading p b g; given = parts-read p b g }
 
 -- ---- What the reader took is written again
 -- how bytes that the reader takes are read
 record Taken (s : List ℕ) : Type 0 where
   path : Decided (field_of request_layout s (map_of s) 0) (map_of s)
   whole : whole_request s (map_of s) ≡ true
-  read : read_request s ≡ record { answer = Accepted; request = request_as s (map_of s) path.kind }
+  read : read_request s ≡ Ok (request_as s (map_of s) path.kind)
 
-never-taken : (s : List ℕ) → refused_request.answer ≡ Accepted → Taken s
-never-taken s e =
+never-taken : (s : List ℕ) (r : Request) → Err KRB_ERR_GENERIC ≡ Ok r → Taken s
+never-taken s r e =
     let z : ◌≡◌ {A = ℕ} 0 1 = cc in
     absurd (omega arith)
 
-taken-along : (s : List ℕ) (p : Path) → path_of (field_of request_layout s (map_of s) 0) (map_of s) ≡ p → (request_for s (map_of s) p).answer ≡ Accepted → Taken s
+taken-along : (s : List ℕ) (r : Request) (p : Option Kind) → path_of (field_of request_layout s (map_of s) 0) (map_of s) ≡ p → request_for s (map_of s) p ≡ Ok r → Taken s
 unfolding read_request request_for
-taken-along s Refuse e h = never-taken s h
-taken-along s (Decide d) e h = by (whole_request s (map_of s)) refl h
+taken-along s r None e h = never-taken s r h
+taken-along s r (Some d) e h = by (whole_request s (map_of s)) refl h
   where
     path : Decided (field_of request_layout s (map_of s) 0) (map_of s)
-    path = decided _ _ (ap is_decided e)
+    path = decided _ _ (ap is_some e)
 
     by : (q : Bool) → whole_request s (map_of s) ≡ q
-        → (cond q (record { answer = Accepted; request = request_as s (map_of s) d }) refused_request).answer ≡ Accepted → Taken s
+        → cond q (Ok (request_as s (map_of s) d)) (Err KRB_ERR_GENERIC) ≡ Ok r → Taken s
     by true w g = record { path = path; whole = w; read = ap (request_for s (map_of s)) path.path ∙ rw w }
-    by false w g = never-taken s g
+    by false w g = never-taken s r g
 
-taken-by : (s : List ℕ) → (read_request s).answer ≡ Accepted → Taken s
+taken-by : (s : List ℕ) (r : Request) → read_request s ≡ Ok r → Taken s
 unfolding read_request
-taken-by s h = taken-along s _ refl h
+taken-by s r h = taken-along s r _ refl h
 
 module _ (s : List ℕ) (b : Bytes s) (t : Taken s) where
   abbrev read-map : ℕ
@@ -340,7 +338,7 @@ module _ (s : List ℕ) (b : Bytes s) (t : Taken s) where
   end-again : end_of request_layout s read-map ≤ length s
   end-again = omega (arith, whole_length s read-map t.whole)
 
-  both-tickets : (has_ticket (embedded_of s read-map 4) && has_ticket (embedded_of s read-map 5)) ≡ true
+  both-tickets : (is_ok (embedded_of s read-map 4) && is_ok (embedded_of s read-map 5)) ≡ true
   unfolding whole_request
   both-tickets = and_right (eqb (length s) (end_of request_layout s read-map)) _ t.whole
 
@@ -354,17 +352,17 @@ module _ (s : List ℕ) (b : Bytes s) (t : Taken s) where
   length-read k l e = ap length (part-counted s read-map k l end-again) ∙ part-again k l e
 
   -- the record of a ticket that was read
-  ticket-again : (k : ℕ) → k < 8 → field_at request_layout k ≡ row 1 1 → has_ticket (embedded_of s read-map k) ≡ true
-      → cond (has_bit read-map k) (record_of (embedded_of s read-map k).ticket) [] ≡ part_of s (span_of s read-map k)
+  ticket-again : (k : ℕ) → k < 8 → field_at request_layout k ≡ row 1 1 → is_ok (embedded_of s read-map k) ≡ true
+      → cond (has_bit read-map k) (record_of (ticket_or_blank (embedded_of s read-map k))) [] ≡ part_of s (span_of s read-map k)
   ticket-again k l e h =
       record-again s read-map k (part_of s (span_of s read-map k)) (part_bytes k) refl h
       ∙ fits-bytes request_layout read-map k (part_of s (span_of s read-map k)) (rw (length-read k l e) (field_room request_layout s b read-map k))
 
   tgt-again : parts.tgt ≡ part_of s (span_of s read-map 4)
-  tgt-again = ticket-again 4 (omega arith) refl (and_left (has_ticket (embedded_of s read-map 4)) _ both-tickets)
+  tgt-again = ticket-again 4 (omega arith) refl (and_left (is_ok (embedded_of s read-map 4)) _ both-tickets)
 
   evidence-again : parts.evidence ≡ part_of s (span_of s read-map 5)
-  evidence-again = ticket-again 5 (omega arith) refl (and_right (has_ticket (embedded_of s read-map 4)) _ both-tickets)
+  evidence-again = ticket-again 5 (omega arith) refl (and_right (is_ok (embedded_of s read-map 4)) _ both-tickets)
 
   values-again : part_values parts ≡ values_in request_layout s read-map (length request_layout)
   unfolding run
@@ -409,8 +407,9 @@ pub record WrittenAgain (bytes : List ℕ) (parts : RequestParts) : Type 0 where
   pub writable : writable parts ≡ true
   pub same : request_of parts ≡ bytes
 
-pub request-written : (s : List ℕ) → Bytes s → (read_request s).answer ≡ Accepted → WrittenAgain s (parts_read s (read_request s).request)
+pub request-written : (s : List ℕ) → Bytes s → (r : Request) → read_request s ≡ Ok r → WrittenAgain s (parts_read s r)
 unfolding request_of
-request-written s b h =
-    let t = taken-by s h in
-    rw t.read (record { writable = writable-again s b t; same = bytes-again s b t })
+request-written s b r h =
+    let t = taken-by s r h in
+    let e : request_as s (map_of s) t.path.kind ≡ r = ok_same (sym t.read ∙ h) in
+    rw (← e) (record { writable = writable-again s b t; same = bytes-again s b t })

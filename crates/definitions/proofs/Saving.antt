@@ -1,5 +1,6 @@
 -- Laws of saving and loading (R7.8 to R7.10): each undoes the other, and two saved services differ in three places at least.
 -- Assumes nothing.
+use Rattle.std.specs.Prelude.{Ok, Err, Result}
 use mathlib.Core.Path.{◌≡◌, refl, sym, ap, ◌∙◌}
 use mathlib.Core.Bool.{Bool, true, false, ◌&&◌, cond}
 use mathlib.Core.List.{List, [], ◌∷◌, ◌++◌, append_assoc, append-nil}
@@ -13,10 +14,10 @@ use lib.Dec.{eqb, ltb, lit<}
 use borrow.Author.Tests.{eq-eqb, eqb-true, eqb-false, ne_eqb, ltb-true, ltb-false}
 use mir.Syntax.{w64}
 use mir.Val.{Fits}
+use Rattle.definitions.specs.declared.error.Error.{Error}
 use Rattle.definitions.specs.Limits.{accounts_size, ledger_size, word_size, saved_magic, layout_number, layout_place, accounts_place, ledger_place, sum_place, saved_size}
 use Rattle.definitions.specs.Fields.{Bytes, number_at, big_endian, run}
 use Rattle.definitions.specs.declared.error.Error.TheVariants.{KRB_ERR_GENERIC}
-use Rattle.definitions.specs.declared.error.Answer.TheVariants.{Accepted, Refused}
 use Rattle.definitions.specs.Answers.{Call}
 use Rattle.definitions.specs.Services.{Service}
 use Rattle.definitions.specs.History.{service_after, replies_to}
@@ -476,14 +477,14 @@ services-differ u v l m i j agree =
 
 -- R7.10: bytes that are loaded, and of which one or two were altered, are 60
 pub altered-refused : (s : List ℕ) → Bytes s → loadable s ≡ true → (i j x y : ℕ) → Bytes (set (set s i x) j y) → (set (set s i x) j y ≡ s → ⊥)
-    → load_answer (set (set s i x) j y) ≡ Refused KRB_ERR_GENERIC
+    → load_answer (set (set s i x) j y) ≡ Err KRB_ERR_GENERIC
 altered-refused s b h i j x y c ne = by (loadable (set (set s i x) j y)) refl
   where
-    by : (p : Bool) → loadable (set (set s i x) j y) ≡ p → cond p Accepted (Refused KRB_ERR_GENERIC) ≡ Refused KRB_ERR_GENERIC
+    by : (p : Bool) → loadable (set (set s i x) j y) ≡ p → ◌≡◌ {A = Result Unit Error} (cond p (Ok tt) (Err KRB_ERR_GENERIC)) (Err KRB_ERR_GENERIC)
     by true e = absurd (ne (altered-same s i j x y b c h e))
     by false e = refl
 
 -- R7.9: bytes of another length are 60
-pub wrong_size : (s : List ℕ) → (length s ≡ saved_size → ⊥) → load_answer s ≡ Refused KRB_ERR_GENERIC
+pub wrong_size : (s : List ℕ) → (length s ≡ saved_size → ⊥) → load_answer s ≡ Err KRB_ERR_GENERIC
 unfolding loadable
 wrong_size s ne = rw (ne_eqb (length s) saved_size ne)

@@ -1,5 +1,6 @@
 -- Cases of saving and loading (R11.11): a fresh service. Its bytes and its check sum are found by a law of zeros, not byte by byte.
 -- Assumes nothing.
+use Rattle.std.specs.Prelude.{Ok, Err}
 use mathlib.Core.Path.{◌≡◌, refl, sym, ap, ap₂, ◌∙◌}
 use mathlib.Core.List.{List, [], ◌∷◌, ◌++◌, append_assoc}
 use Prim.Native.Nat.{ℕ, zero, suc, ◌+◌, ◌*◌, ◌≤◌, ◌<◌}
@@ -14,7 +15,6 @@ use Rattle.definitions.specs.Limits.{accounts_size, ledger_size, word_size, save
 use Rattle.definitions.specs.Fields.{Bytes, big_endian}
 use Rattle.definitions.specs.Services.{fresh_service}
 use Rattle.definitions.specs.declared.error.Error.TheVariants.{KRB_ERR_GENERIC}
-use Rattle.definitions.specs.declared.error.Answer.TheVariants.{Accepted, Refused}
 use Rattle.definitions.specs.Saving.{Words, Lent, word_bytes, weighted_sum, byte_sum, counted_place, place_sum, saved_body, with_sums, saved_of, load_answer}
 use Rattle.definitions.proofs.Fields.{bytes-cons}
 use Rattle.definitions.proofs.Saving.{sum-front, length-saved, bytes-saved, save-loadable, altered-refused, wrong_size}
@@ -82,12 +82,12 @@ pub record SavingCases : Type 0 where
   -- R11.11: 21,632 bytes of 0 between head and check sum
   pub fresh-saved : saved ≡ head ++ replicate 21632 0 ++ sums
   -- R11.11: loaded as they are, and refused with byte 16 or the last byte altered, or both, without the last byte, and with another behind it
-  pub fresh-loaded : load_answer saved ≡ Accepted
-  pub byte-16 : load_answer (set saved 16 0x01) ≡ Refused KRB_ERR_GENERIC
-  pub last_byte : load_answer (set saved 21663 0x42) ≡ Refused KRB_ERR_GENERIC
-  pub both_bytes : load_answer (set (set saved 16 0x01) 21663 0x42) ≡ Refused KRB_ERR_GENERIC
-  pub cut : load_answer (take 21663 saved) ≡ Refused KRB_ERR_GENERIC
-  pub left_over : load_answer (saved ++ (0 ∷ [])) ≡ Refused KRB_ERR_GENERIC
+  pub fresh-loaded : load_answer saved ≡ Ok tt
+  pub byte-16 : load_answer (set saved 16 0x01) ≡ Err KRB_ERR_GENERIC
+  pub last_byte : load_answer (set saved 21663 0x42) ≡ Err KRB_ERR_GENERIC
+  pub both_bytes : load_answer (set (set saved 16 0x01) 21663 0x42) ≡ Err KRB_ERR_GENERIC
+  pub cut : load_answer (take 21663 saved) ≡ Err KRB_ERR_GENERIC
+  pub left_over : load_answer (saved ++ (0 ∷ [])) ≡ Err KRB_ERR_GENERIC
 
 fresh : saved ≡ head ++ replicate 21632 0 ++ sums
 fresh = ap with_sums (body accounts_size ledger_size) ∙ zeros-saved 21632
@@ -101,7 +101,7 @@ bytes-set (y ∷ s) b zero x f = bytes-cons x s f (λ k. b (suc k))
 bytes-set (y ∷ s) b (suc i) x f = bytes-cons y (set s i x) (b 0) (bytes-set s (λ k. b (suc k)) i x f)
 
 -- one or two bytes altered
-altered : (i j x y : ℕ) → Fits w8 x → Fits w8 y → j < saved_size → (get_or saved j 0 ≡ y → ⊥) → load_answer (set (set saved i x) j y) ≡ Refused KRB_ERR_GENERIC
+altered : (i j x y : ℕ) → Fits w8 x → Fits w8 y → j < saved_size → (get_or saved j 0 ≡ y → ⊥) → load_answer (set (set saved i x) j y) ≡ Err KRB_ERR_GENERIC
 altered i j x y f g l ne =
     let room : j < length (set saved i x) = rw (length-set saved i x, size) l in
     altered-refused saved (bytes-saved fresh_service) (save-loadable fresh_service fresh-lent) i j x y

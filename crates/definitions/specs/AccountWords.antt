@@ -2,14 +2,13 @@
 -- lifetime, the send set, the receive set, two that are free. Any words are some table: a row is set exactly when its stored length is
 -- that of a name.
 -- Assumes nothing.
-use Rattle.std.specs.Prelude.{ℕ, zero, suc, ◌+◌, ◌*◌, ◌/◌, ◌%◌, Bool, true, ◌&&◌, cond, List, [], ◌∷◌, ◌++◌, length, get_or, replicate, leb}
+use Rattle.std.specs.Prelude.{ℕ, zero, suc, ◌+◌, ◌*◌, ◌/◌, ◌%◌, Bool, true, ◌&&◌, cond, List, [], ◌∷◌, ◌++◌, length, get_or, replicate, leb, Result, Ok, Err}
+use Rattle.definitions.specs.declared.error.Error.{Error}
 use Rattle.definitions.specs.Limits.{account_limit, name_limit, byte_bits, two8, two32, rows_start, row_size, detail_word, send_word, receive_word, accounts_size}
 use Rattle.definitions.specs.Accounts.{Row, no_row, Table}
 use Rattle.definitions.specs.Words.{lane_at, pack_at, put_row}
 use Rattle.definitions.specs.Edits.{Edit, edit_row}
 use Rattle.definitions.specs.declared.account.Account.{Account}
-use Rattle.definitions.specs.declared.error.Answer.{Answer}
-use Rattle.definitions.specs.declared.error.Answer.TheVariants.{Accepted, Refused}
 
 -- the word at which an account's row starts
 abbrev pub row_start : ℕ → ℕ
@@ -77,9 +76,9 @@ unfoldable pub store_row : List ℕ → ℕ → Row → List ℕ
 store_row words number row = put_row words (row_start number) (row_words row)
 
 -- the words after an edit that was so answered
-abbrev pub stored_by : Answer → List ℕ → Edit → List ℕ
-stored_by Accepted words edit = store_row words edit.number (edit_row edit)
-stored_by (Refused error) words edit = words
+abbrev pub stored_by : Result Unit Error → List ℕ → Edit → List ℕ
+stored_by (Ok _) words edit = store_row words edit.number (edit_row edit)
+stored_by (Err error) words edit = words
 
 -- R7.2: the words of a table with no account set
 abbrev pub no_account_words : List ℕ

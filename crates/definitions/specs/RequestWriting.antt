@@ -1,22 +1,19 @@
 -- The writer of requests (R4.8): which parts a readable request has, and which bytes it is; and the parts of a request that was read (R4.9).
 -- Offsets, bytes and length come from the layout that the reader goes by.
 -- Assumes nothing.
-use Rattle.std.specs.Prelude.{ℕ, zero, suc, ◌^◌, List, [], ◌∷◌, ◌++◌, Bool, true, false, ◌&&◌, cond, length, drop, ltb, leb, eqb}
+use Rattle.std.specs.Prelude.{ℕ, zero, suc, ◌^◌, List, [], ◌∷◌, ◌++◌, Bool, true, ◌&&◌, cond, length, drop, ltb, leb, eqb, Result, Ok, Err, is_some, is_ok}
 use Rattle.std.specs.Int.Bits.{bit_or}
+use Rattle.definitions.specs.declared.error.Error.{Error}
 use Rattle.definitions.specs.Fields.{Bytes, Layout, field_at, has_bit, map_of, Value, plain, value_at, bytes_to}
 use Rattle.definitions.specs.TicketRecords.{read_ticket, record_of}
-use Rattle.definitions.specs.Requests.{request_layout, needed_bits, kind_number, path_of, part_of, has_ticket}
-use Rattle.definitions.specs.declared.request.Path.{Path}
-use Rattle.definitions.specs.declared.request.Path.TheVariants.{Decide, Refuse}
+use Rattle.definitions.specs.Requests.{request_layout, needed_bits, kind_number, path_of, part_of}
 use Rattle.definitions.specs.declared.request.Request.{Request}
 use Rattle.definitions.specs.declared.error.Error.TheVariants.{KRB_ERR_RESPONSE_TOO_BIG, KRB_ERR_GENERIC}
-use Rattle.definitions.specs.declared.ticket.Written.{Written}
-use Rattle.definitions.specs.declared.ticket.Written.TheVariants.{Length, Refused}
 
 -- what a writer answers to an output of so many bytes, of which it needs some: 60 where it has no bytes to write, then 52, else their length
-abbrev pub written_to : Bool → ℕ → List ℕ → ℕ → Written
+abbrev pub written_to : Bool → ℕ → List ℕ → ℕ → Result ℕ Error
 written_to writable needed bytes room =
-    cond writable (cond (leb needed room) (Length (length bytes)) (Refused KRB_ERR_RESPONSE_TOO_BIG)) (Refused KRB_ERR_GENERIC)
+    cond writable (cond (leb needed room) (Ok (length bytes)) (Err KRB_ERR_RESPONSE_TOO_BIG)) (Err KRB_ERR_GENERIC)
 
 -- the output afterwards: the bytes at its start and every other byte as it was; untouched by a refusal
 abbrev pub output_to : Bool → ℕ → List ℕ → List ℕ → List ℕ
@@ -81,17 +78,12 @@ numbers_fit layout map values (suc bit) = numbers_fit layout map values bit && n
 
 -- R4.8: the ticket reader takes the record of a field that stands
 unfoldable pub record_fits : ℕ → ℕ → List ℕ → Bool
-record_fits map bit bytes = cond (has_bit map bit) (has_ticket (read_ticket bytes)) true
-
--- R4.2: there is a decision path
-abbrev pub is_decided : Path → Bool
-is_decided (Decide kind) = true
-is_decided Refuse = false
+record_fits map bit bytes = cond (has_bit map bit) (is_ok (read_ticket bytes)) true
 
 -- R4.8: some readable request has these parts: kind and map pick a path, what is given fits the fields, and the records are tickets'
 unfoldable pub writable : RequestParts → Bool
 writable parts =
-    is_decided (path_of parts.kind (map_of_parts parts))
+    is_some (path_of parts.kind (map_of_parts parts))
     && (numbers_fit request_layout (map_of_parts parts) (part_values parts) (length request_layout)
     && (record_fits (map_of_parts parts) 4 parts.tgt && record_fits (map_of_parts parts) 5 parts.evidence))
 
@@ -100,7 +92,7 @@ unfoldable pub request_of : RequestParts → List ℕ
 request_of parts = bytes_to request_layout (map_of_parts parts) (part_values parts) (length request_layout)
 
 -- R4.8: what the writer answers to parts and an output of so many bytes: 60, then 52, else the request's length
-unfoldable pub request_written : RequestParts → ℕ → Written
+unfoldable pub request_written : RequestParts → ℕ → Result ℕ Error
 request_written parts room = written_to (writable parts) (length (request_of parts)) (request_of parts) room
 
 -- R4.8: the output afterwards: the request at its start and every other byte as it was; untouched by a refusal

@@ -1,17 +1,14 @@
 -- A saved service (R7.8 to R7.10): its bytes, the bytes that are loaded, and what saving and loading answer and leave. Any words can be saved;
 -- loading is total, and takes exactly the bytes that saving makes of some words.
 -- Assumes nothing.
-use Rattle.std.specs.Prelude.{ℕ, zero, suc, ◌+◌, ◌*◌, ◌≡◌, Bool, ◌&&◌, cond, List, [], ◌∷◌, ◌++◌, length, get_or, drop, eqb, leb}
+use Rattle.std.specs.Prelude.{ℕ, zero, suc, ◌+◌, ◌*◌, ◌≡◌, Bool, ◌&&◌, cond, List, [], ◌∷◌, ◌++◌, length, get_or, drop, eqb, leb, Result, Ok, Err}
 use Rattle.std.specs.Int.{w64}
 use Rattle.std.proofs.Common.{Fits}
+use Rattle.definitions.specs.declared.error.Error.{Error}
 use Rattle.definitions.specs.Limits.{accounts_size, ledger_size, word_size, saved_magic, layout_number, layout_place, accounts_place, ledger_place, sum_place, saved_size}
 use Rattle.definitions.specs.Fields.{number_at, big_endian}
 use Rattle.definitions.specs.Services.{Service}
 use Rattle.definitions.specs.declared.error.Error.TheVariants.{KRB_ERR_RESPONSE_TOO_BIG, KRB_ERR_GENERIC}
-use Rattle.definitions.specs.declared.error.Answer.{Answer}
-use Rattle.definitions.specs.declared.error.Answer.TheVariants.{Accepted, Refused}
-use Rattle.definitions.specs.declared.ticket.Written.{Written}
-use Rattle.definitions.specs.declared.ticket.Written.TheVariants.{Length, Refused as Unwritten}
 
 -- every entry is a word, as it is of every array of words
 abbrev pub Words : List ℕ → Type 0
@@ -60,8 +57,8 @@ abbrev pub saved_of : Service → List ℕ
 saved_of service = with_sums (saved_body service)
 
 -- R7.8: what saving answers to an output of so many bytes: 52, or how many bytes a service takes
-abbrev pub save_answer : ℕ → Written
-save_answer room = cond (leb saved_size room) (Length saved_size) (Unwritten KRB_ERR_RESPONSE_TOO_BIG)
+abbrev pub save_answer : ℕ → Result ℕ Error
+save_answer room = cond (leb saved_size room) (Ok saved_size) (Err KRB_ERR_RESPONSE_TOO_BIG)
 
 -- R7.8: the output afterwards: the service at its start and every other byte as it was; untouched by a refusal
 unfoldable pub save_output : Service → List ℕ → List ℕ
@@ -87,8 +84,8 @@ abbrev pub loaded_from : List ℕ → Service
 loaded_from bytes = record { accounts = words_at bytes accounts_place accounts_size; ledger = words_at bytes ledger_place ledger_size }
 
 -- R7.9: what loading answers: 60 to all other bytes
-abbrev pub load_answer : List ℕ → Answer
-load_answer bytes = cond (loadable bytes) Accepted (Refused KRB_ERR_GENERIC)
+abbrev pub load_answer : List ℕ → Result Unit Error
+load_answer bytes = cond (loadable bytes) (Ok tt) (Err KRB_ERR_GENERIC)
 
 -- R7.9: the service afterwards: the one that was saved; untouched by a refusal
 abbrev pub load_service : List ℕ → Service → Service
