@@ -1,5 +1,6 @@
 -- Laws of the cursor: what is found at it, and what is put there.
 -- Assumes nothing.
+use Rattle.std.specs.Prelude.{is_some, Option, None, Result, Ok, Err}
 use mathlib.Core.Path.{◌≡◌, refl, sym, ap, ◌∙◌}
 use mathlib.Core.Bool.{Bool, true, false, ◌&&◌, cond, false≢true}
 use mathlib.Core.List.{List, [], ◌∷◌, ◌++◌, append_assoc}
@@ -10,6 +11,8 @@ use lib.ListN.{length, get_or, take, drop, drop_of_length-le, length-append, set
 use lib.Seq.{take-suc, sets, sets-eq, length-take-le}
 use lib.Dec.{leb, eqb, lit<}
 use borrow.Author.Tests.{le-leb, leb-true}
+use Rattle.definitions.specs.declared.request.Kind.{Kind}
+use Rattle.definitions.specs.declared.error.Error.{Error}
 use Rattle.definitions.specs.Limits.{longest_record, byte_bits}
 use Rattle.definitions.specs.Fields.{Bytes, has_bit, number_at, big_endian, Layout, row, field_at, offset_of, field_of, Value, plain, value_at, field_bytes, bytes_to}
 use Rattle.definitions.specs.declared.field.Field.{Field}
@@ -20,7 +23,6 @@ use Rattle.definitions.specs.TicketRecords.{ticket_layout, all_zero, well_formed
 use Rattle.definitions.specs.Output.{written_of, output_of}
 use Rattle.definitions.specs.RequestWriting.{written_to, output_to}
 use Rattle.definitions.specs.declared.ticket.Ticket.{Ticket}
-use Rattle.definitions.specs.declared.ticket.Written.TheVariants.{Length, Refused}
 use Rattle.definitions.specs.declared.error.Error.TheVariants.{KRB_ERR_RESPONSE_TOO_BIG, KRB_ERR_GENERIC}
 use Rattle.definitions.proofs.Output.{unwritable, too_short}
 use Rattle.definitions.specs.Words.{pack_at}
@@ -28,9 +30,7 @@ use Rattle.definitions.proofs.Words.{pack-shift, pack-zero}
 use Rattle.definitions.proofs.Lists.{sets-append, sets_last}
 use lib.Bits.{bit_or, or_add_and, and_le_l}
 use Rattle.definitions.specs.Requests.{request_layout, needed_bits, map_fits, kind_path, path_of}
-use Rattle.definitions.specs.RequestWriting.{RequestParts, map_of_parts, counted, part_values, numbers_fit, record_fits, is_decided, writable, request_of, request_written, request_output}
-use Rattle.definitions.specs.declared.request.Path.{Path}
-use Rattle.definitions.specs.declared.request.Path.TheVariants.{Refuse}
+use Rattle.definitions.specs.RequestWriting.{RequestParts, map_of_parts, counted, part_values, numbers_fit, record_fits, writable, request_of, request_written, request_output}
 use Rattle.definitions.proofs.Requests.{allowed-small, fits-least, path-above, path-other}
 
 -- ---- Taking
@@ -143,16 +143,16 @@ wrote-mark vs m k {o} {o₁} {i} {r} e v p = rw (e, v) (by (has_bit m k))
 
 -- all that a writer writes
 pub wrote-all : (w : Bool) (n : ℕ) (xs o o₁ : List ℕ) (r : ℕ) → w ≡ true → n ≤ length o → length xs ≤ n → Wrote o 0 xs o₁ r
-    → (Length r ≡ written_to w n xs (length o)) × (o₁ ≡ output_to w n xs o)
+    → (Ok r ≡ written_to w n xs (length o)) × (o₁ ≡ output_to w n xs o)
 wrote-all w n xs o o₁ r h l b p =
     let q : 0 + length xs ≤ length o = omega arith in (
-      rw (h, le-leb n (length o) l) (ap Length (p.past ∙ zero-add (length xs))),
+      rw (h, le-leb n (length o) l) (ap Ok (p.past ∙ zero-add (length xs))),
       rw (h, le-leb n (length o) l) (p.put ∙ sets-eq xs o 0 q ∙ rw zero-add),
     )
 
 -- the record
 pub wrote-record : (t : Ticket) (o o₁ : List ℕ) (m r : ℕ) → m ≡ map_of_ticket t → well_formed t m ≡ true → longest_record ≤ length o
-    → r ≤ longest_record → Wrote o 0 (record_as t m) o₁ r → (Length r ≡ written_of t (length o)) × (o₁ ≡ output_of t o)
+    → r ≤ longest_record → Wrote o 0 (record_as t m) o₁ r → (Ok r ≡ written_of t (length o)) × (o₁ ≡ output_of t o)
 unfolding written_of output_of
 wrote-record t o o₁ m r e h l b p =
     wrote-all _ longest_record (record_of t) o o₁ r (ap (well_formed t) (sym e) ∙ h) l (omega (arith, (rw e at p.past))) (rw e at p)
@@ -168,11 +168,11 @@ unfolding all_zero
 behind-none s h l = rw (drop_of_length-le s {i = h} l)
 
 -- ---- The map of a request that is written
-pub map-decided : (k f m : ℕ) (p : Path) → m ≡ bit_or (needed_bits k) f → p ≡ path_of k m → is_decided p ≡ true → m ≡ map_or_none k f
+pub map-decided : (k f m : ℕ) (p : Option Kind) → m ≡ bit_or (needed_bits k) f → p ≡ path_of k m → is_some p ≡ true → m ≡ map_or_none k f
 unfolding map_or_none
 map-decided k f m p e d h = rw (sym e, sym d, h)
 
-pub map-none : (k f m : ℕ) → m ≡ bit_or (needed_bits k) f → Refuse ≡ path_of k m → 0 ≡ map_or_none k f
+pub map-none : (k f m : ℕ) → m ≡ bit_or (needed_bits k) f → None ≡ path_of k m → 0 ≡ map_or_none k f
 unfolding map_or_none
 map-none k f m e d = rw (sym e, sym d)
 
@@ -189,7 +189,7 @@ map-above k f l =
     (path-above k k _ refl (omega (arith, allowed-small k, or_add_and (needed_bits k) f, and_le_l (needed_bits k) f)))
 
 -- a map of a kind is not 0
-needed-some : (k : ℕ) → is_decided (kind_path k) ≡ true → 0 < needed_bits k
+needed-some : (k : ℕ) → is_some (kind_path k) ≡ true → 0 < needed_bits k
 needed-some zero h = absurd (false≢true h)
 needed-some (suc zero) h = lit< tt
 needed-some (suc (suc zero)) h = lit< tt
@@ -202,13 +202,13 @@ pub map-writable : (p : RequestParts) (m : ℕ) (t : Bool) → m ≡ map_or_none
     → t ≡ (numbers_fit request_layout m (part_values p) (length request_layout) && (record_fits m 4 p.tgt && record_fits m 5 p.evidence))
     → cond t m 0 ≡ map_if_writable p
 unfolding map_or_none writable
-map-writable p m t e f = by (is_decided (path_of p.kind (map_of_parts p))) refl e
+map-writable p m t e f = by (is_some (path_of p.kind (map_of_parts p))) refl e
   where
     none : (t : Bool) → ◌≡◌ {A = ℕ} (cond t 0 0) 0
     none true = refl
     none false = refl
 
-    by : (q : Bool) → is_decided (path_of p.kind (map_of_parts p)) ≡ q → m ≡ cond q (map_of_parts p) 0 → cond t m 0 ≡ map_if_writable p
+    by : (q : Bool) → is_some (path_of p.kind (map_of_parts p)) ≡ q → m ≡ cond q (map_of_parts p) 0 → cond t m 0 ≡ map_if_writable p
     by true d g = rw (d, f, g)
     by false d g = rw (d, g) (none t)
 
@@ -226,22 +226,22 @@ map_found p m e n = by (writable p) refl e
 
 pub none_found : (p : RequestParts) (m : ℕ) → m ≡ map_if_writable p → m ≡ 0 → writable p ≡ false
 unfolding writable path_of
-none_found p m e z = by (map_fits p.kind (map_of_parts p)) refl (is_decided (kind_path p.kind)) refl
+none_found p m e z = by (map_fits p.kind (map_of_parts p)) refl (is_some (kind_path p.kind)) refl
   where
     rest : Bool
     rest =
         numbers_fit request_layout (map_of_parts p) (part_values p) (length request_layout)
         && (record_fits (map_of_parts p) 4 p.tgt && record_fits (map_of_parts p) 5 p.evidence)
 
-    least : map_fits p.kind (map_of_parts p) ≡ true → is_decided (kind_path p.kind) ≡ true → 0 < map_of_parts p
+    least : map_fits p.kind (map_of_parts p) ≡ true → is_some (kind_path p.kind) ≡ true → 0 < map_of_parts p
     least h d = omega (arith, needed-some p.kind d, fits-least p.kind (map_of_parts p) h)
 
     zeroed : (r : Bool) → 0 < map_of_parts p → cond r (map_of_parts p) 0 ≡ 0 → r ≡ false
     zeroed true l g = absurd (omega arith)
     zeroed false l g = refl
 
-    by : (q : Bool) → map_fits p.kind (map_of_parts p) ≡ q → (d : Bool) → is_decided (kind_path p.kind) ≡ d
-        → (is_decided (cond (map_fits p.kind (map_of_parts p)) (kind_path p.kind) Refuse) && rest) ≡ false
+    by : (q : Bool) → map_fits p.kind (map_of_parts p) ≡ q → (d : Bool) → is_some (kind_path p.kind) ≡ d
+        → (is_some (cond (map_fits p.kind (map_of_parts p)) (kind_path p.kind) None) && rest) ≡ false
     by false h d g = rw h
     by true h false g = rw (h, g)
     by true h true g = zeroed _ (least h g) (sym e ∙ z)
@@ -259,17 +259,17 @@ size_of p m e = rw e (sym (more 7 ∙ rw (more 6, more 5, more 4, more 3, more 2
 
 -- 60, 52, and the request
 module _ (p : RequestParts) (o : List ℕ) where
-  pub request-unwritable : writable p ≡ false → (Refused KRB_ERR_GENERIC ≡ request_written p (length o)) × (o ≡ request_output p o)
+  pub request-unwritable : writable p ≡ false → (Err KRB_ERR_GENERIC ≡ request_written p (length o)) × (o ≡ request_output p o)
   unfolding request_written request_output
   request-unwritable h = unwritable (writable p) (length (request_of p)) (request_of p) o h
 
   pub request-short : writable p ≡ true → length o < length (request_of p)
-      → (Refused KRB_ERR_RESPONSE_TOO_BIG ≡ request_written p (length o)) × (o ≡ request_output p o)
+      → (Err KRB_ERR_RESPONSE_TOO_BIG ≡ request_written p (length o)) × (o ≡ request_output p o)
   unfolding request_written request_output
   request-short h l = too_short (writable p) (length (request_of p)) (request_of p) o h l
 
   pub request-wrote : (o₁ : List ℕ) (m r : ℕ) → writable p ≡ true → m ≡ map_of_parts p → length (request_of p) ≤ length o
-      → Wrote o 0 (bytes_to request_layout m (part_values p) 8) o₁ r → (Length r ≡ request_written p (length o)) × (o₁ ≡ request_output p o)
+      → Wrote o 0 (bytes_to request_layout m (part_values p) 8) o₁ r → (Ok r ≡ request_written p (length o)) × (o₁ ≡ request_output p o)
   unfolding request_written request_output request_of
   request-wrote o₁ m r h e l w = wrote-all (writable p) (length (request_of p)) (request_of p) o o₁ r h l (omega arith) (rw e at w)
 

@@ -1,14 +1,14 @@
 -- How the code goes through bytes: what a function finds at a cursor, or puts there, and where it leaves the cursor. No exported promise speaks
 -- of it; it ties each step of the code to the definitions of records and requests (R3.1, R4.1).
 -- Assumes nothing.
-use Rattle.std.specs.Prelude.{ℕ, zero, suc, ◌+◌, ◌*◌, ◌%◌, ◌^◌, ◌≤◌, ◌<◌, ◌≡◌, List, true, cond, length, get_or}
+use Rattle.std.specs.Prelude.{ℕ, zero, suc, ◌+◌, ◌*◌, ◌%◌, ◌^◌, ◌≤◌, ◌<◌, ◌≡◌, List, true, cond, length, get_or, is_some}
 use Rattle.std.specs.Int.Bits.{bit_or}
 use Rattle.std.proofs.lemmas.List.Edits.{sets}
 use Rattle.definitions.specs.Limits.{trail_limit}
 use Rattle.definitions.specs.Fields.{has_bit, number_at, Layout, field_at, offset_of, end_of, field_of}
 use Rattle.definitions.specs.TicketRecords.{ticket_layout, known_map, hops_of, readable_as}
 use Rattle.definitions.specs.Requests.{request_layout, needed_bits, path_of, span_of}
-use Rattle.definitions.specs.RequestWriting.{RequestParts, map_of_parts, is_decided, writable}
+use Rattle.definitions.specs.RequestWriting.{RequestParts, map_of_parts, writable}
 use Rattle.record.specs.declared.found.Found.{Found}
 use Rattle.record.specs.declared.found.Walk.{Walk}
 use Rattle.record.specs.declared.found.Part.{Part}
@@ -91,7 +91,7 @@ put_most layout (suc bit) = put_most layout bit + (field_at layout bit).head + (
 
 -- R4.8: the map of a kind with a mask; 0, which is no map, where kind and map pick no path
 unfoldable pub map_or_none : ℕ → ℕ → ℕ
-map_or_none kind fields = cond (is_decided (path_of kind (bit_or (needed_bits kind) fields))) (bit_or (needed_bits kind) fields) 0
+map_or_none kind fields = cond (is_some (path_of kind (bit_or (needed_bits kind) fields))) (bit_or (needed_bits kind) fields) 0
 
 -- R4.8: the map of parts that a readable request has; 0 of others
 abbrev pub map_if_writable : RequestParts → ℕ

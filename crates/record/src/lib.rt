@@ -19,7 +19,7 @@ ghost use Rattle.record.specs.Cursor.{cursor_most, Numbered, Taken};
 
 pub use compare::same_ticket;
 use definitions::Field;
-pub use errors::{answer_number, error_number, is_accepted};
+pub use errors::answer_number;
 use found::Found;
 pub use packing::{name_in, pack_name};
 pub use reader::read_ticket;

@@ -3,12 +3,11 @@ ghost use Rattle.std.specs.Prelude.{◌≡◌, true, ℕ, ◌+◌, ◌≤◌, �
 ghost use Rattle.definitions.specs.Limits.{trail_limit};
 ghost use Rattle.definitions.specs.Fields.{field_at, offset_of};
 ghost use Rattle.record.specs.Cursor.{cursor_most, Taken, Walked};
-ghost use Rattle.definitions.specs.TicketRecords.{ticket_layout, known_map, hops_fit, origin_as, trail_of, accepted, refused, read_ticket};
+ghost use Rattle.definitions.specs.TicketRecords.{ticket_layout, known_map, hops_fit, origin_as, trail_of, read_ticket};
 
 use crate::found::{Found, Walk};
-use crate::ticket::blank_ticket;
 use crate::{both, map_of, present, take_field};
-use definitions::{Answer, Error, Field, Origin, Principal, Reading, TRAIL_LIMIT, Ticket, Window};
+use definitions::{Error, Field, Origin, Principal, TRAIL_LIMIT, Ticket, Window};
 
 // How many fields a ticket's record has.
 const FIELDS: usize = 11;
@@ -27,26 +26,6 @@ const LAYOUT: [Field; FIELDS] = [
     Field { head: 0, unit: 0 }, // barred mark
     Field { head: 0, unit: 0 }, // self mark
 ];
-
-// The reading of a ticket.
-pub(crate) fn accepted(ticket: Ticket) -> Reading
-    ensures { result ≡ accepted ticket }
-{
-    Reading {
-        answer: Answer::Accepted,
-        ticket,
-    }
-}
-
-// The reading of bytes that are no record.
-fn refused() -> Reading
-    ensures { result ≡ refused }
-{
-    Reading {
-        answer: Answer::Refused(Error::KRB_ERR_GENERIC),
-        ticket: blank_ticket(),
-    }
-}
 
 // Whether a map is one of the eight (R3.3).
 fn known_map(map: u16) -> bool
@@ -146,19 +125,19 @@ fn walk(bytes: &[u8], map: u16) -> Walk
 }
 
 // The ticket of a record, or 60.
-pub fn read_ticket(bytes: &[u8]) -> Reading
+pub fn read_ticket(bytes: &[u8]) -> Result<Ticket, Error>
     ensures { result ≡ read_ticket bytes.now }
 {
     let map = map_of(bytes);
     if !known_map(map) {
-        return refused();
+        return Err(Error::KRB_ERR_GENERIC);
     }
     let found = walk(bytes, map);
     if !found.fits {
-        return refused();
+        return Err(Error::KRB_ERR_GENERIC);
     }
     let trail = trail_of(bytes, found.trail, found.hops);
-    accepted(Ticket {
+    Ok(Ticket {
         number: found.number,
         flags: found.flags,
         client: found.client,

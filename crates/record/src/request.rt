@@ -2,14 +2,13 @@
 ghost use Rattle.std.specs.Prelude.{◌≡◌, ◌+◌, ◌≤◌, ◌<◌, length};
 ghost use Rattle.definitions.specs.Fields.{map_of, field_at, offset_of, field_of};
 ghost use Rattle.record.specs.Cursor.{cursor_most, Taken, Counted, Parted};
-ghost use Rattle.definitions.specs.Requests.{request_layout, needed_bits, map_fits, path_if, path_of, embedded_in, has_ticket, refused_request, request_for, read_request};
+ghost use Rattle.definitions.specs.Requests.{request_layout, needed_bits, map_fits, path_if, path_of, embedded_in, request_for, read_request};
 
-use crate::errors::is_accepted;
 use crate::found::{Found, Part, Parts};
-use crate::reader::{accepted, read_ticket};
+use crate::reader::read_ticket;
 use crate::ticket::blank_ticket;
 use crate::{both, map_of, present, take_field};
-use definitions::{Answer, Error, Field, Kind, Path, Reading, Request, RequestReading, Span};
+use definitions::{Error, Field, Kind, Request, Span, Ticket};
 
 // The map bits that a request of each kind needs, and those that it may have (R4.2). There is no kind 0.
 const NEEDED: [u16; 5] = [0, 0x41, 0x91, 0x51, 0xB3];
@@ -48,39 +47,35 @@ fn map_fits(kind: usize, map: u16) -> bool
     )
 }
 
-// The path of a kind where the table has the map, else the refusal.
-fn path_if(fits: bool, kind: Kind) -> Path
+// A kind where the table has the map.
+fn path_if(fits: bool, kind: Kind) -> Option<Kind>
     ensures { result ≡ path_if fits kind }
 {
-    if fits {
-        Path::Decide(kind)
-    } else {
-        Path::Refuse
-    }
+    if fits { Some(kind) } else { None }
 }
 
-// The path that a kind and a map pick. A range also holds maps that are not of the kind, so the table decides.
-pub(crate) fn path_of(kind: u8, map: u16) -> Path
+// The kind of a number where the map is of it. A range also holds maps that are not of the kind, so the table decides.
+pub(crate) fn path_of(kind: u8, map: u16) -> Option<Kind>
     ensures { result ≡ path_of kind map }
 {
     match kind {
         1 => match map {
             0x41..=0x4B => path_if(map_fits(1, map), Kind::Initial),
-            _ => Path::Refuse,
+            _ => None,
         },
         2 => match map {
             0x91..=0x9B => path_if(map_fits(2, map), Kind::Direct),
-            _ => Path::Refuse,
+            _ => None,
         },
         3 => match map {
             0x51..=0x5B => path_if(map_fits(3, map), Kind::S4U2self),
-            _ => Path::Refuse,
+            _ => None,
         },
         4 => match map {
             0xB3..=0xBF => path_if(map_fits(4, map), Kind::S4U2proxy),
-            _ => Path::Refuse,
+            _ => None,
         },
-        _ => Path::Refuse,
+        _ => None,
     }
 }
 
@@ -150,8 +145,8 @@ fn parts_of(bytes: &[u8], map: u16) -> Parts
     }
 }
 
-// The ticket of a part of the request, a blank one where the map has none.
-fn embedded_in(bytes: &[u8], map: u16, bit: usize, span: Span) -> Reading
+// The ticket of a part of the request, a blank one where the map has none, or 60.
+fn embedded_in(bytes: &[u8], map: u16, bit: usize, span: Span) -> Result<Ticket, Error>
     requires { (bit < 8) × (span.at + span.len ≤ length bytes.now) }
     ensures { result ≡ embedded_in bytes.now map bit span }
 {
@@ -160,40 +155,12 @@ fn embedded_in(bytes: &[u8], map: u16, bit: usize, span: Span) -> Reading
         let to = from + span.len;
         read_ticket(&bytes[from..to])
     } else {
-        accepted(blank_ticket())
+        Ok(blank_ticket())
     }
 }
 
-// Whether a reading has a ticket.
-fn has_ticket(reading: Reading) -> bool
-    ensures { result ≡ has_ticket reading }
-{
-    let answer = reading.answer;
-    is_accepted(answer)
-}
-
-// The reading of bytes that are no request.
-fn refused_request() -> RequestReading
-    ensures { result ≡ refused_request }
-{
-    let blank = blank_ticket();
-    RequestReading {
-        answer: Answer::Refused(Error::KRB_ERR_GENERIC),
-        request: Request {
-            kind: Kind::Initial,
-            options: 0,
-            pac_options: 0,
-            till: 0,
-            tgt: blank,
-            evidence: blank,
-            user: Span { at: 0, len: 0 },
-            service: Span { at: 0, len: 0 },
-        },
-    }
-}
-
-// The decision path that the first bytes pick, or the refusal.
-pub fn request_path(bytes: &[u8]) -> Path
+// The kind that the first bytes pick; where they pick none, the request is refused.
+pub fn request_path(bytes: &[u8]) -> Option<Kind>
     ensures { result ≡ path_of (field_of request_layout bytes.now (map_of bytes.now) 0) (map_of bytes.now) }
 {
     let map = map_of(bytes);
@@ -201,48 +168,35 @@ pub fn request_path(bytes: &[u8]) -> Path
     path_of(kind.value as u8, map)
 }
 
-// The request of the bytes on a decision path, or 60.
-pub fn read_rest(bytes: &[u8], kind: Kind) -> RequestReading
-    ensures { result ≡ request_for bytes.now (map_of bytes.now) (Path.Decide kind) }
+// The request of the bytes, of the kind that they pick, or 60.
+pub fn read_rest(bytes: &[u8], kind: Kind) -> Result<Request, Error>
+    ensures { result ≡ request_for bytes.now (map_of bytes.now) (Some kind) }
 {
     let map = map_of(bytes);
     let parts = parts_of(bytes, map);
     if bytes.len() != parts.past {
-        return refused_request();
+        return Err(Error::KRB_ERR_GENERIC);
     }
-    let tgt = parts.tgt;
-    let evidence = parts.evidence;
-    let t = embedded_in(bytes, map, 4, tgt);
-    let e = embedded_in(bytes, map, 5, evidence);
-    if !both(has_ticket(t), has_ticket(e)) {
-        return refused_request();
-    }
-    let tgt = t.ticket;
-    let evidence = e.ticket;
-    let user = parts.user;
-    let service = parts.service;
-    RequestReading {
-        answer: Answer::Accepted,
-        request: Request {
-            kind,
-            options: parts.options,
-            pac_options: parts.pac_options,
-            till: parts.till,
-            tgt,
-            evidence,
-            user,
-            service,
-        },
-    }
+    let tgt = embedded_in(bytes, map, 4, parts.tgt)?;
+    let evidence = embedded_in(bytes, map, 5, parts.evidence)?;
+    Ok(Request {
+        kind,
+        options: parts.options,
+        pac_options: parts.pac_options,
+        till: parts.till,
+        tgt,
+        evidence,
+        user: parts.user,
+        service: parts.service,
+    })
 }
 
 // The request of the bytes, or 60.
-pub fn read_request(bytes: &[u8]) -> RequestReading
+pub fn read_request(bytes: &[u8]) -> Result<Request, Error>
     ensures { result ≡ read_request bytes.now }
 {
-    let path = request_path(bytes);
-    let Path::Decide(kind) = path else {
-        return refused_request();
+    let Some(kind) = request_path(bytes) else {
+        return Err(Error::KRB_ERR_GENERIC);
     };
     read_rest(bytes, kind)
 }

@@ -6,12 +6,11 @@ ghost use Rattle.definitions.specs.Requests.{request_layout};
 ghost use Rattle.definitions.specs.RequestWriting.{request_parts, counted, part_values, number_fits, numbers_fit, record_fits, request_written, request_output};
 ghost use Rattle.record.specs.Cursor.{map_or_none, map_if_writable, field_size, size_to, Wrote};
 
-use crate::errors::is_accepted;
 use crate::reader::read_ticket;
 use crate::request::{needed_bits, path_of, request_row};
 use crate::writer::{copy, put};
 use crate::{both, present};
-use definitions::{Error, Path, TWO_8, TWO_32, Written};
+use definitions::{Error, TWO_8, TWO_32};
 
 // The map of a kind with a mask of fields; 0, which is no map, where it is not of the kind.
 fn map_with(kind: u32, fields: u32) -> u16
@@ -25,8 +24,8 @@ fn map_with(kind: u32, fields: u32) -> u16
     }
     let map = needed_bits(kind as usize) | fields as u16;
     match path_of(kind as u8, map) {
-        Path::Decide(_) => map,
-        Path::Refuse => 0,
+        Some(_) => map,
+        None => 0,
     }
 }
 
@@ -77,9 +76,7 @@ fn record_fits(map: u16, bit: usize, bytes: &[u8]) -> bool
     ensures { result ≡ record_fits map bit bytes.now }
 {
     if present(map, bit) {
-        let reading = read_ticket(bytes);
-        let answer = reading.answer;
-        is_accepted(answer)
+        read_ticket(bytes).is_ok()
     } else {
         true
     }
@@ -245,7 +242,7 @@ pub fn write_request(
     service: &[u8],
     fields: u32,
     out: &mut [u8],
-) -> Written
+) -> Result<usize, Error>
     ensures answer { result ≡ request_written (request_parts kind options pac_options till tgt.now evidence.now user.now service.now fields) (length out.old) }
     ensures output { out.new ≡ request_output (request_parts kind options pac_options till tgt.now evidence.now user.now service.now fields) out.old }
 {
@@ -261,12 +258,12 @@ pub fn write_request(
         fields,
     );
     if map == 0 {
-        return Written::Refused(Error::KRB_ERR_GENERIC);
+        return Err(Error::KRB_ERR_GENERIC);
     }
     if out.len() < request_size(map, tgt.len(), evidence.len(), user.len(), service.len()) {
-        return Written::Refused(Error::KRB_ERR_RESPONSE_TOO_BIG);
+        return Err(Error::KRB_ERR_RESPONSE_TOO_BIG);
     }
-    Written::Length(put_request(
+    Ok(put_request(
         out,
         map,
         kind,

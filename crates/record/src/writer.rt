@@ -10,7 +10,7 @@ ghost use Rattle.record.specs.Cursor.{put_most, Wrote};
 use crate::reader::{hops_fit, ticket_row};
 use crate::ticket::{evidence_of, origin_map, tgt_of, trail_word};
 use crate::{both, present};
-use definitions::{Error, LONGEST_RECORD, Origin, Principal, TRAIL_LIMIT, Ticket, Written};
+use definitions::{Error, LONGEST_RECORD, Origin, Principal, TRAIL_LIMIT, Ticket};
 
 // The map of an origin, with or without the barred mark.
 fn map_for(origin: Origin, barred: bool) -> u16
@@ -138,17 +138,17 @@ fn put_record(out: &mut [u8], t: Ticket, map: u16) -> usize
 }
 
 // The record of a ticket, at the start of the output; 60 to a ticket that has none, then 52 to an output shorter than the longest record.
-pub fn write_ticket(t: Ticket, out: &mut [u8]) -> Written
+pub fn write_ticket(t: Ticket, out: &mut [u8]) -> Result<usize, Error>
     ensures answer { result ≡ written_of t (length out.old) }
     ensures output { out.new ≡ output_of t out.old }
 {
     let origin = t.origin;
     let map = map_for(origin, t.barred);
     if !well_formed(t, map) {
-        return Written::Refused(Error::KRB_ERR_GENERIC);
+        return Err(Error::KRB_ERR_GENERIC);
     }
     if out.len() < LONGEST_RECORD {
-        return Written::Refused(Error::KRB_ERR_RESPONSE_TOO_BIG);
+        return Err(Error::KRB_ERR_RESPONSE_TOO_BIG);
     }
-    Written::Length(put_record(out, t, map))
+    Ok(put_record(out, t, map))
 }

@@ -7,8 +7,7 @@ pub returns-then-not-known_map : goal.returns-then-not-known_map
 returns-then-not-known_map c =
     let m = c.map_of-map in
     let k = c.known_map in
-    c.refused.ensures
-    ∙ read-unknown c.args.bytes.now m.result m.ensures (sym k.ensures ∙ c.if-not-known_map.true)
+    read-unknown c.args.bytes.now m.result m.ensures (sym k.ensures ∙ c.if-not-known_map.true)
 
 pub returns-then-not-found : goal.returns-then-not-found
 returns-then-not-found c =
@@ -17,7 +16,7 @@ returns-then-not-found c =
     let k = c.known_map in
     let w = c.walk-found in
     let fits = sym (w.ensures.fits (sym k.ensures ∙ c.if-not-known_map.false)) in
-    c.refused-then-not-found.ensures ∙ read_no s m.result m.ensures (fits ∙ not-true w.result.fits c.if-not-found.true)
+    read_no s m.result m.ensures (fits ∙ not-true w.result.fits c.if-not-found.true)
 
 pub trail_of-trail-requires : goal.trail_of-trail-requires
 trail_of-trail-requires c =
@@ -37,6 +36,5 @@ returns c =
     let w = c.walk-found in
     let fits = sym (w.ensures.fits (sym k.ensures ∙ c.if-not-known_map.false)) in
     let r = fits ∙ not-false w.result.fits c.if-not-found.false in
-    c.accepted.ensures
-    ∙ read-yes s m.result _ m.ensures r
+    read-yes s m.result _ m.ensures r
     (simp (c.trail_of-trail.ensures, c.origin_as.ensures, c.present.ensures, w.ensures.numbers r))

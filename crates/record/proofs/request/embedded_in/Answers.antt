@@ -13,4 +13,4 @@ returns-then-present c =
 
 pub returns-else-present : goal.returns-else-present
 returns-else-present c =
-    rw (sym c.present.ensures ∙ c.if-present.false) (c.accepted.ensures ∙ rw c.blank_ticket.ensures)
+    rw (sym c.present.ensures ∙ c.if-present.false) (rw c.blank_ticket.ensures)

@@ -1,4 +1,0 @@
-use Rattle.record.proofs.reader.refused.Goals as goal
-
-pub returns : goal.returns
-returns c = rw c.blank_ticket.ensures
