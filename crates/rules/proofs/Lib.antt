@@ -1,5 +1,6 @@
 -- Laws of the code of layer 2.
 pub mod NameSearch
 pub mod Stages
+pub mod Until
 pub mod Lanes
 pub mod LetterCase

@@ -15,7 +15,8 @@ use Rattle.definitions.proofs.Checks.{judge-append, left-held, is-accepted}
 use Rattle.definitions.proofs.Grants.{hop-good, rest-held}
 use Rattle.definitions.specs.Errors.{is_accepted}
 use Rattle.definitions.specs.declared.window.Window.{Window}
-use Rattle.definitions.specs.Decisions.{Presented, service_check, hop_checks, last_checks, tgt_checks, evidence_checks, direct_checks, s4u2self_checks, s4u2proxy_checks, past, hop_permitted, decide_direct, decide_s4u2self, decide_s4u2proxy}
+use Rattle.definitions.specs.Decisions.{service_check, hop_checks, last_checks, tgt_checks, evidence_checks, direct_checks, s4u2self_checks, s4u2proxy_checks, past, hop_permitted, decide_direct, decide_s4u2self, decide_s4u2proxy}
+use Rattle.definitions.specs.declared.decision.Presented.{Presented}
 use Rattle.definitions.specs.declared.decision.Moment.{Moment}
 use Rattle.definitions.proofs.Decisions.{decided-append, past-then}
 use Rattle.rules.specs.Stages.{finish_direct, finish_s4u2self, finish_s4u2proxy}
@@ -33,13 +34,13 @@ hop-few y p e m w r er h =
 
 -- kind 2: the TGT, then the rest
 pub direct-staged : (m : Moment) (f : Bool) (till : ℕ) (g : Presented) (n : Named)
-    → decide_direct m f till g n ≡ past (judge (tgt_checks m.clock g)) (finish_direct m f till g.ticket g.client n)
+    → decide_direct m f till g n ≡ past (judge (tgt_checks m.clock g)) (finish_direct m f till g n)
 unfolding decide_direct direct_checks finish_direct
 direct-staged m f till g n = decided-append (tgt_checks m.clock g) _ _
 
 -- kind 3: the TGT, then the rest
 pub s4u2self-staged : (m : Moment) (f : Bool) (till : ℕ) (g : Presented) (n : Named)
-    → decide_s4u2self m f till g n ≡ past (judge (tgt_checks m.clock g)) (finish_s4u2self m f till g.ticket g.client n)
+    → decide_s4u2self m f till g n ≡ past (judge (tgt_checks m.clock g)) (finish_s4u2self m f till g n)
 unfolding decide_s4u2self s4u2self_checks finish_s4u2self
 s4u2self-staged m f till g n = decided-append (tgt_checks m.clock g) _ _
 

@@ -1,14 +1,14 @@
 // The checks of a request, in the order of R6.2; each function answers the first that fails.
-ghost use Rattle.std.specs.Prelude.{cond, ◌≡◌};
+ghost use Rattle.std.specs.Prelude.{cond, ◌≡◌, not, ◌&&◌, ◌==◌};
 ghost use Rattle.definitions.specs.Checks.{and_then, judge};
 ghost use Rattle.definitions.specs.Decisions.{is_initial, opening_checks, window_checks, tgt_checks, evidence_checks, service_check, user_checks, hop_checks, last_checks};
 
-use crate::accounts::{is_enabled, is_service};
+use crate::accounts::{Flag, has_flag, is_enabled};
 use definitions::{
-    Account, Answer, Error, LONGEST_RECORD, Moment, Origin, Principal, TICKET_LIMIT, TRAIL_LIMIT,
-    Ticket, Window,
+    Account, Answer, Error, LONGEST_RECORD, Moment, Origin, Presented, Principal, TICKET_LIMIT,
+    TRAIL_LIMIT, Ticket, Window,
 };
-use record::{both, is_accepted};
+use record::is_accepted;
 
 // What comes after a check that holds, or its refusal.
 pub(crate) fn unless(holds: bool, error: Error, rest: Answer) -> Answer
@@ -43,12 +43,7 @@ pub fn check_opening(reading: Answer, room: usize) -> Answer
 fn is_initial(origin: Origin) -> bool
     ensures { result ≡ is_initial origin }
 {
-    match origin {
-        Origin::Initial => true,
-        Origin::Direct(_) => false,
-        Origin::S4U2self(_) => false,
-        Origin::Delegated(_, _) => false,
-    }
+    matches!(origin, Origin::Initial)
 }
 
 // The checks of a presented ticket's window: 33, 32; then what comes after them.
@@ -63,46 +58,49 @@ fn check_window(window: Window, clock: u32, rest: Answer) -> Answer
 }
 
 // The checks of the TGT: 41; 35; 33 and 32; 18.
-pub(crate) fn check_tgt(clock: u32, tgt: Ticket, held: bool, client: Account) -> Answer
-    ensures { result ≡ judge (tgt_checks clock (record { ticket = tgt; held = held; client = client })) }
+pub(crate) fn check_tgt(clock: u32, tgt: &Presented) -> Answer
+    ensures { result ≡ judge (tgt_checks clock tgt.now) }
 {
-    let origin = tgt.origin;
     let last = unless(
-        is_enabled(client),
+        is_enabled(tgt.client),
         Error::KDC_ERR_CLIENT_REVOKED,
         Answer::Accepted,
     );
-    let times = check_window(tgt.window, clock, last);
+    let times = check_window(tgt.ticket.window, clock, last);
     unless(
-        held,
+        tgt.held,
         Error::KRB_AP_ERR_MODIFIED,
-        unless(is_initial(origin), Error::KRB_AP_ERR_NOT_US, times),
+        unless(
+            is_initial(tgt.ticket.origin),
+            Error::KRB_AP_ERR_NOT_US,
+            times,
+        ),
     )
 }
 
-// The checks of the evidence: 41; 33 and 32; 26; 18. Service 1 has this number.
-pub(crate) fn check_evidence(
-    clock: u32,
-    evidence: Ticket,
-    held: bool,
-    client: Account,
-    number1: Principal,
-) -> Answer
-    ensures { result ≡ judge (evidence_checks clock (record { ticket = evidence; held = held; client = client }) number1) }
+// Whether a ticket was issued to the service of a number; a TGT is no service's.
+fn is_issued_to(ticket: &Ticket, number: Principal) -> bool
+    ensures { result ≡ (not (is_initial ticket.now.origin) && ticket.now.service == number) }
 {
-    let origin = evidence.origin;
+    !is_initial(ticket.origin) && ticket.service == number
+}
+
+// The checks of the evidence: 41; 33 and 32; 26; 18. Service 1 has this number.
+pub(crate) fn check_evidence(clock: u32, evidence: &Presented, number1: Principal) -> Answer
+    ensures { result ≡ judge (evidence_checks clock evidence.now number1) }
+{
     let last = unless(
-        is_enabled(client),
+        is_enabled(evidence.client),
         Error::KDC_ERR_CLIENT_REVOKED,
         Answer::Accepted,
     );
     let matched = unless(
-        both(!is_initial(origin), evidence.service == number1),
+        is_issued_to(&evidence.ticket, number1),
         Error::KDC_ERR_SERVER_NOMATCH,
         last,
     );
-    let times = check_window(evidence.window, clock, matched);
-    unless(held, Error::KRB_AP_ERR_MODIFIED, times)
+    let times = check_window(evidence.ticket.window, clock, matched);
+    unless(evidence.held, Error::KRB_AP_ERR_MODIFIED, times)
 }
 
 // The checks of a user: 6, 18; then what comes after them.
@@ -121,15 +119,15 @@ pub(crate) fn check_service(service: Account, rest: Answer) -> Answer
     ensures { result ≡ cond (service_check service).holds rest (Answer.Refused (service_check service).error) }
 {
     unless(
-        both(is_enabled(service), is_service(service)),
+        is_enabled(service) && has_flag(service, Flag::Service),
         Error::KDC_ERR_S_PRINCIPAL_UNKNOWN,
         rest,
     )
 }
 
 // The checks of a hop: 13, 61; then what comes after them.
-pub(crate) fn check_hop(permitted: bool, evidence: Ticket, rest: Answer) -> Answer
-    ensures { result ≡ and_then (judge (hop_checks permitted evidence)) rest }
+pub(crate) fn check_hop(permitted: bool, evidence: &Ticket, rest: Answer) -> Answer
+    ensures { result ≡ and_then (judge (hop_checks permitted evidence.now)) rest }
 {
     unless(
         permitted,

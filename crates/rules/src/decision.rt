@@ -6,16 +6,16 @@ ghost use Rattle.definitions.specs.AccountWords.{table_of};
 ghost use Rattle.definitions.specs.Decisions.{refuse, grant, past, named, presented, decide_initial, decide_direct, decide_s4u2self, decide_s4u2proxy};
 ghost use Rattle.rules.specs.Stages.{finish_direct, finish_s4u2self, finish_s4u2proxy};
 
-use crate::accounts::is_service;
+use crate::accounts::{Flag, has_flag};
 use crate::check::{
     and_then, check_evidence, check_hop, check_last, check_service, check_tgt, check_user, unless,
 };
 use crate::name::find_packed;
-use crate::routes::is_permitted;
+use crate::routes::Hop;
 use crate::tickets::{direct_ticket, initial_ticket, s4u2proxy_ticket, s4u2self_ticket};
-use crate::windows::{grant_window, hop_window, initial_window};
+use crate::windows::initial_window;
 use crate::words::{AccountWords, account_at};
-use definitions::{Account, Answer, Decision, Error, Moment, Named, Principal, Span, Ticket};
+use definitions::{Answer, Decision, Error, Moment, Named, Presented, Principal, Span, Ticket};
 use record::{is_accepted, name_in};
 
 // An answer that is a refusal, with a blank ticket beside it.
@@ -53,6 +53,17 @@ fn find_named(words: &AccountWords, bytes: &[u8], span: Span) -> Named
     }
 }
 
+// A ticket that a request presents, with its client's account.
+fn present(words: &AccountWords, held: bool, ticket: Ticket) -> Presented
+    ensures { result ≡ presented (table_of words.now) held ticket }
+{
+    Presented {
+        ticket,
+        held,
+        client: account_at(words, ticket.client as usize),
+    }
+}
+
 // Kind 1 for the user of a name.
 pub fn decide_initial(
     words: &AccountWords,
@@ -71,45 +82,33 @@ pub fn decide_initial(
 }
 
 // Kind 2 to a service, once the TGT is found good.
-fn finish_direct(
-    moment: Moment,
-    asked: bool,
-    till: u32,
-    tgt: Ticket,
-    client: Account,
-    service: Named,
-) -> Decision
-    ensures { result ≡ finish_direct moment asked till tgt client service }
+fn finish_direct(moment: Moment, asked: bool, till: u32, tgt: &Presented, service: Named) -> Decision
+    ensures { result ≡ finish_direct moment asked till tgt.now service }
 {
-    let window = grant_window(moment.clock, service.account.lifetime, till, tgt.window.end);
+    let window =
+        initial_window(moment.clock, service.account.lifetime, till).until(tgt.ticket.window.end);
     let answer = check_service(service.account, check_last(moment, window));
     conclude(
         answer,
-        direct_ticket(moment.next, asked, tgt, client, service.number, window),
+        direct_ticket(moment.next, asked, tgt, service.number, window),
     )
 }
 
 // Kind 3 for a user, once the TGT is found good.
-fn finish_s4u2self(
-    moment: Moment,
-    asked: bool,
-    till: u32,
-    tgt: Ticket,
-    service1: Account,
-    user: Named,
-) -> Decision
-    ensures { result ≡ finish_s4u2self moment asked till tgt service1 user }
+fn finish_s4u2self(moment: Moment, asked: bool, till: u32, tgt: &Presented, user: Named) -> Decision
+    ensures { result ≡ finish_s4u2self moment asked till tgt.now user }
 {
-    let window = grant_window(moment.clock, service1.lifetime, till, tgt.window.end);
+    let window =
+        initial_window(moment.clock, tgt.client.lifetime, till).until(tgt.ticket.window.end);
     let rest = check_user(user.account, check_last(moment, window));
     let answer = unless(
-        is_service(service1),
+        has_flag(tgt.client, Flag::Service),
         Error::KDC_ERR_S_PRINCIPAL_UNKNOWN,
         rest,
     );
     conclude(
         answer,
-        s4u2self_ticket(moment.next, asked, tgt, service1, user, window),
+        s4u2self_ticket(moment.next, asked, tgt, user, window),
     )
 }
 
@@ -118,19 +117,15 @@ fn finish_s4u2proxy(
     moment: Moment,
     permitted: bool,
     till: u32,
-    tgt: Ticket,
-    evidence: Ticket,
+    tgt: &Ticket,
+    evidence: &Ticket,
     service2: Named,
 ) -> Decision
-    ensures { result ≡ finish_s4u2proxy moment permitted till tgt evidence service2 }
+    ensures { result ≡ finish_s4u2proxy moment permitted till tgt.now evidence.now service2 }
 {
-    let window = hop_window(
-        moment.clock,
-        service2.account.lifetime,
-        till,
-        tgt.window.end,
-        evidence.window.end,
-    );
+    let window = initial_window(moment.clock, service2.account.lifetime, till)
+        .until(tgt.window.end)
+        .until(evidence.window.end);
     let rest = check_hop(permitted, evidence, check_last(moment, window));
     let answer = check_service(service2.account, rest);
     if !is_accepted(answer) {
@@ -155,13 +150,13 @@ pub fn decide_direct(
 ) -> Decision
     ensures { result ≡ decide_direct moment asked till (presented (table_of words.now) held tgt) (named (table_of words.now) (part_of bytes.now name)) }
 {
-    let client = account_at(words, tgt.client as usize);
-    let answer = check_tgt(moment.clock, tgt, held, client);
+    let tgt = present(words, held, tgt);
+    let answer = check_tgt(moment.clock, &tgt);
     if !is_accepted(answer) {
         return refuse(answer);
     }
     let service = find_named(words, bytes, name);
-    finish_direct(moment, asked, till, tgt, client, service)
+    finish_direct(moment, asked, till, &tgt, service)
 }
 
 // Kind 3 for the user of a name.
@@ -177,13 +172,13 @@ pub fn decide_s4u2self(
 ) -> Decision
     ensures { result ≡ decide_s4u2self moment asked till (presented (table_of words.now) held tgt) (named (table_of words.now) (part_of bytes.now name)) }
 {
-    let service1 = account_at(words, tgt.client as usize);
-    let answer = check_tgt(moment.clock, tgt, held, service1);
+    let tgt = present(words, held, tgt);
+    let answer = check_tgt(moment.clock, &tgt);
     if !is_accepted(answer) {
         return refuse(answer);
     }
     let user = find_named(words, bytes, name);
-    finish_s4u2self(moment, asked, till, tgt, service1, user)
+    finish_s4u2self(moment, asked, till, &tgt, user)
 }
 
 // Kind 4 to the service of a name.
@@ -202,25 +197,30 @@ pub fn decide_s4u2proxy(
 ) -> Decision
     ensures { result ≡ decide_s4u2proxy moment cname resource till (presented (table_of words.now) tgt_held tgt) (presented (table_of words.now) evidence_held evidence) (named (table_of words.now) (part_of bytes.now name)) }
 {
-    let service1 = account_at(words, tgt.client as usize);
-    let client = account_at(words, evidence.client as usize);
+    let tgt = present(words, tgt_held, tgt);
+    let evidence = present(words, evidence_held, evidence);
     let answer = and_then(
-        check_tgt(moment.clock, tgt, tgt_held, service1),
-        check_evidence(moment.clock, evidence, evidence_held, client, tgt.client),
+        check_tgt(moment.clock, &tgt),
+        check_evidence(moment.clock, &evidence, tgt.ticket.client),
     );
     if !is_accepted(answer) {
         return refuse(answer);
     }
     let service2 = find_named(words, bytes, name);
-    let permitted = is_permitted(
-        client,
-        service1,
-        service2.account,
+    let hop = Hop {
+        tgt: &tgt,
+        evidence: &evidence,
+        service2,
         cname,
         resource,
-        tgt.client,
-        evidence,
-        service2.number,
-    );
-    finish_s4u2proxy(moment, permitted, till, tgt, evidence, service2)
+    };
+    let permitted = hop.is_permitted();
+    finish_s4u2proxy(
+        moment,
+        permitted,
+        till,
+        &tgt.ticket,
+        &evidence.ticket,
+        service2,
+    )
 }

@@ -1,68 +1,50 @@
 // What permits a hop of kind 4 (R5.7): no bar of the client, the option, and one of two routes, from Service 1, the TGT's client, to Service 2,
 // which the request names.
 ghost use Rattle.std.specs.Prelude.{◌≡◌};
-ghost use Rattle.definitions.specs.Routes.{classic_route, resource_route, has_route, is_permitted};
+ghost use Rattle.definitions.specs.Routes.{classic_route, resource_route, has_route};
+ghost use Rattle.definitions.specs.Decisions.{hop_permitted};
 
-use crate::accounts::{in_set, is_barred};
+use crate::accounts::{Flag, has_flag, in_set};
 use crate::options::is_forwardable;
-use definitions::{Account, Principal, Ticket};
-use record::{both, either};
+use definitions::{Named, Presented};
 
-// Whether the classic route holds, to the account of a number.
-fn classic_route(service1: Account, evidence: Ticket, number2: Principal) -> bool
-    ensures { result ≡ classic_route service1 evidence number2 }
-{
-    both(
-        in_set(service1.send, number2 as usize),
-        is_forwardable(evidence.flags),
-    )
+// A hop: its TGT, its evidence, the service that it goes to, and whether CNAME-IN-ADDL-TKT and the resource-based option stand.
+#[derive(Clone, Copy)]
+pub(crate) struct Hop<'a> {
+    pub(crate) tgt: &'a Presented,
+    pub(crate) evidence: &'a Presented,
+    pub(crate) service2: Named,
+    pub(crate) cname: bool,
+    pub(crate) resource: bool,
 }
 
-// Whether the resource route holds, from the account of a number.
-fn resource_route(service2: Account, resource: bool, number1: Principal, evidence: Ticket) -> bool
-    ensures { result ≡ resource_route service2 resource number1 evidence }
-{
-    both(
-        resource,
-        both(in_set(service2.receive, number1 as usize), !evidence.barred),
-    )
-}
+impl Hop<'_> {
+    // Whether the classic route holds.
+    #[tactic(auto, unfolding(definitions::specs::Routes::classic_route))]
+    fn classic_route(&self) -> bool
+        ensures { result ≡ classic_route self.now.tgt.now.client self.now.evidence.now.ticket self.now.service2.number }
+    {
+        in_set(self.tgt.client.send, self.service2.number as usize)
+            && is_forwardable(self.evidence.ticket.flags)
+    }
 
-// Whether a route holds, from the account of the first number to that of the second.
-fn has_route(
-    service1: Account,
-    service2: Account,
-    resource: bool,
-    number1: Principal,
-    evidence: Ticket,
-    number2: Principal,
-) -> bool
-    ensures { result ≡ has_route service1 service2 resource number1 evidence number2 }
-{
-    either(
-        classic_route(service1, evidence, number2),
-        resource_route(service2, resource, number1, evidence),
-    )
-}
+    // Whether the resource route holds.
+    #[tactic(auto, unfolding(definitions::specs::Routes::resource_route))]
+    fn resource_route(&self) -> bool
+        ensures { result ≡ resource_route self.now.service2.account self.now.resource self.now.tgt.now.ticket.client self.now.evidence.now.ticket }
+    {
+        self.resource
+            && in_set(self.service2.account.receive, self.tgt.ticket.client as usize)
+            && !self.evidence.ticket.barred
+    }
 
-// Whether the evidence's client is not barred, CNAME-IN-ADDL-TKT stands and a route holds.
-pub(crate) fn is_permitted(
-    client: Account,
-    service1: Account,
-    service2: Account,
-    cname: bool,
-    resource: bool,
-    number1: Principal,
-    evidence: Ticket,
-    number2: Principal,
-) -> bool
-    ensures { result ≡ is_permitted client service1 service2 cname resource number1 evidence number2 }
-{
-    both(
-        !is_barred(client),
-        both(
-            cname,
-            has_route(service1, service2, resource, number1, evidence, number2),
-        ),
-    )
+    // Whether the evidence's client is not barred, CNAME-IN-ADDL-TKT stands and a route holds.
+    #[tactic(auto, unfolding(definitions::specs::Routes::is_permitted, definitions::specs::Routes::has_route))]
+    pub(crate) fn is_permitted(&self) -> bool
+        ensures { result ≡ hop_permitted self.now.cname self.now.resource self.now.tgt.now self.now.evidence.now self.now.service2 }
+    {
+        !has_flag(self.evidence.client, Flag::Barred)
+            && self.cname
+            && (self.classic_route() || self.resource_route())
+    }
 }

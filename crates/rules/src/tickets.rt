@@ -1,130 +1,106 @@
 // The ticket that a request of each kind is given (R5.4 to R5.6, R5.8), under the next number (R5.10).
 ghost use Rattle.std.specs.Prelude.{◌≡◌, ◌<◌};
 ghost use Rattle.definitions.specs.Limits.{trail_limit};
-ghost use Rattle.definitions.specs.NewTickets.{without_trail, direct_mark, s4u2self_forwardable, initial_ticket, direct_ticket, s4u2self_ticket, s4u2proxy_ticket};
+ghost use Rattle.definitions.specs.NewTickets.{direct_mark, s4u2self_forwardable, initial_ticket, direct_ticket, s4u2self_ticket, s4u2proxy_ticket};
 
-use crate::accounts::{is_barred, is_trusted};
+use crate::accounts::{Flag, has_flag};
 use crate::options::{flags_of, is_forwardable};
-use definitions::{Account, Named, Origin, Principal, TRAIL_LIMIT, Ticket, Window};
-use record::{both, either};
-
-// A ticket that came by no hop.
-fn without_trail(
-    number: u16,
-    flags: u32,
-    client: Principal,
-    service: Principal,
-    window: Window,
-    origin: Origin,
-    barred: bool,
-) -> Ticket
-    ensures { result ≡ without_trail number flags client service window origin barred }
-{
-    let trail = [0u8; TRAIL_LIMIT];
-    Ticket {
-        number,
-        flags,
-        client,
-        service,
-        window,
-        origin,
-        trail,
-        hops: 0,
-        barred,
-    }
-}
+use definitions::{Named, Origin, Presented, Principal, Ticket, Window};
+use record::blank_ticket;
 
 // The ticket of kind 1, for a user.
+#[tactic(auto, unfolding(definitions::specs::NewTickets::initial_ticket))]
 pub(crate) fn initial_ticket(next: u16, asked: bool, user: Named, window: Window) -> Ticket
     ensures { result ≡ initial_ticket next asked user window }
 {
-    let mark = is_barred(user.account);
-    let flags = flags_of(both(asked, !mark), true);
-    without_trail(next, flags, user.number, 0, window, Origin::Initial, mark)
+    let barred = has_flag(user.account, Flag::Barred);
+    Ticket {
+        number: next,
+        flags: flags_of(asked && !barred, true),
+        client: user.number,
+        window,
+        barred,
+        ..blank_ticket()
+    }
 }
 
 // The mark of a ticket of kind 2: the TGT's, or of its client's bar now.
-fn direct_mark(client: Account, tgt: Ticket) -> bool
-    ensures { result ≡ direct_mark client tgt }
+fn direct_mark(tgt: &Presented) -> bool
+    ensures { result ≡ direct_mark tgt.now.client tgt.now.ticket }
 {
-    either(tgt.barred, is_barred(client))
+    tgt.ticket.barred || has_flag(tgt.client, Flag::Barred)
 }
 
 // The ticket of kind 2, to the service of a number.
+#[tactic(auto, unfolding(definitions::specs::NewTickets::direct_ticket))]
 pub(crate) fn direct_ticket(
     next: u16,
     asked: bool,
-    tgt: Ticket,
-    client: Account,
+    tgt: &Presented,
     number: Principal,
     window: Window,
 ) -> Ticket
-    ensures { result ≡ direct_ticket next asked tgt client number window }
+    ensures { result ≡ direct_ticket next asked tgt.now.ticket tgt.now.client number window }
 {
-    let mark = direct_mark(client, tgt);
-    let flags = flags_of(both(asked, both(is_forwardable(tgt.flags), !mark)), false);
-    without_trail(
-        next,
-        flags,
-        tgt.client,
-        number,
+    let barred = direct_mark(tgt);
+    Ticket {
+        number: next,
+        flags: flags_of(asked && is_forwardable(tgt.ticket.flags) && !barred, false),
+        client: tgt.ticket.client,
+        service: number,
         window,
-        Origin::Direct(tgt.number),
-        mark,
-    )
+        origin: Origin::Direct(tgt.ticket.number),
+        barred,
+        ..blank_ticket()
+    }
 }
 
 // Whether a ticket of kind 3 is FORWARDABLE, if it has no mark.
-fn s4u2self_forwardable(service1: Account, asked: bool, tgt: Ticket) -> bool
-    ensures { result ≡ s4u2self_forwardable service1 asked tgt }
+fn s4u2self_forwardable(tgt: &Presented, asked: bool) -> bool
+    ensures { result ≡ s4u2self_forwardable tgt.now.client asked tgt.now.ticket }
 {
-    either(
-        is_trusted(service1),
-        both(service1.send == 0, both(asked, is_forwardable(tgt.flags))),
-    )
+    has_flag(tgt.client, Flag::Trusted)
+        || (tgt.client.send == 0 && asked && is_forwardable(tgt.ticket.flags))
 }
 
-// The ticket of kind 3, for a user, to Service 1.
+// The ticket of kind 3, for a user, to Service 1, the TGT's client.
+#[tactic(auto, unfolding(definitions::specs::NewTickets::s4u2self_ticket))]
 pub(crate) fn s4u2self_ticket(
     next: u16,
     asked: bool,
-    tgt: Ticket,
-    service1: Account,
+    tgt: &Presented,
     user: Named,
     window: Window,
 ) -> Ticket
-    ensures { result ≡ s4u2self_ticket next asked tgt service1 user window }
+    ensures { result ≡ s4u2self_ticket next asked tgt.now.ticket tgt.now.client user window }
 {
-    let mark = is_barred(user.account);
-    let flags = flags_of(
-        both(!mark, s4u2self_forwardable(service1, asked, tgt)),
-        false,
-    );
-    without_trail(
-        next,
-        flags,
-        user.number,
-        tgt.client,
+    let barred = has_flag(user.account, Flag::Barred);
+    Ticket {
+        number: next,
+        flags: flags_of(!barred && s4u2self_forwardable(tgt, asked), false),
+        client: user.number,
+        service: tgt.ticket.client,
         window,
-        Origin::S4U2self(tgt.number),
-        mark,
-    )
+        origin: Origin::S4U2self(tgt.ticket.number),
+        barred,
+        ..blank_ticket()
+    }
 }
 
 // The ticket of kind 4, to the Service 2 of a number.
+#[tactic(auto, unfolding(definitions::specs::NewTickets::s4u2proxy_ticket))]
 pub(crate) fn s4u2proxy_ticket(
     next: u16,
-    tgt: Ticket,
-    evidence: Ticket,
+    tgt: &Ticket,
+    evidence: &Ticket,
     number: Principal,
     window: Window,
 ) -> Ticket
-    requires { evidence.hops < trail_limit }
-    ensures { result ≡ s4u2proxy_ticket next tgt evidence number window }
+    requires { evidence.now.hops < trail_limit }
+    ensures { result ≡ s4u2proxy_ticket next tgt.now evidence.now number window }
 {
-    let hops = evidence.hops;
     let mut trail = evidence.trail;
-    trail[hops as usize] = tgt.client;
+    trail[evidence.hops as usize] = tgt.client;
     Ticket {
         number: next,
         flags: flags_of(is_forwardable(evidence.flags), false),
@@ -133,7 +109,7 @@ pub(crate) fn s4u2proxy_ticket(
         window,
         origin: Origin::Delegated(tgt.number, evidence.number),
         trail,
-        hops: hops + 1,
+        hops: evidence.hops + 1,
         barred: evidence.barred,
     }
 }

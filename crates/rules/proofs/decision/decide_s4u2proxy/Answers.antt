@@ -19,7 +19,7 @@ returns-then-not-is_accepted c =
     let z = and_then (judge (tgt_checks a.moment.clock g)) (judge (evidence_checks a.moment.clock e a.tgt.client)) in
     c.refuse.ensures
     ∙ past-refused t.result z (finish_s4u2proxy a.moment (hop_permitted a.cname a.resource g e n) a.till a.tgt a.evidence n)
-    (simp (t.ensures, c.check_evidence.ensures, c.check_tgt.ensures, c.account_at-client.ensures, c.account_at-service1.ensures)) (sym y.ensures ∙ c.if-not-is_accepted.true)
+    (simp (t.ensures, c.check_evidence.ensures, c.check_tgt.ensures, c.present-tgt.ensures, c.present-evidence.ensures)) (sym y.ensures ∙ c.if-not-is_accepted.true)
     ∙ sym (s4u2proxy-staged a.moment a.cname a.resource a.till g e n)
 
 pub returns : goal.returns
@@ -31,5 +31,5 @@ returns c =
     let e = presented (table_of a.words.now) a.evidence_held a.evidence in
     let n = named (table_of a.words.now) (part_of a.bytes.now a.name) in
     let z = and_then (judge (tgt_checks a.moment.clock g)) (judge (evidence_checks a.moment.clock e a.tgt.client)) in
-    c.finish_s4u2proxy.ensures ∙ past-accepted t.result z _ (simp (t.ensures, c.check_evidence.ensures, c.check_tgt.ensures, c.account_at-client.ensures, c.account_at-service1.ensures)) (sym y.ensures ∙ c.if-not-is_accepted.false)
-    ∙ simp (c.is_permitted-permitted.ensures, c.find_named-service2.ensures, c.account_at-client.ensures, c.account_at-service1.ensures) (sym (s4u2proxy-staged a.moment a.cname a.resource a.till g e n))
+    c.finish_s4u2proxy.ensures ∙ past-accepted t.result z _ (simp (t.ensures, c.check_evidence.ensures, c.check_tgt.ensures, c.present-tgt.ensures, c.present-evidence.ensures)) (sym y.ensures ∙ c.if-not-is_accepted.false)
+    ∙ simp (c.is_permitted-permitted.ensures, c.find_named-service2.ensures, c.present-tgt.ensures, c.present-evidence.ensures) (sym (s4u2proxy-staged a.moment a.cname a.resource a.till g e n))
