@@ -1,56 +1,87 @@
--- Laws of the stages: each kind's list of checks, in the rules' order, is its stages one after the other (R6.2).
+-- Laws of the stages: each kind's list of checks, in the rules' order, is its groups of checks one after the other (R6.2).
 -- Assumes nothing.
-use mathlib.Core.Path.{◌≡◌, sym, ap, ◌∙◌}
-use mathlib.Core.List.{◌∷◌, ◌++◌}
-use mathlib.Core.Bool.{Bool, true, cond}
+use Rattle.std.specs.Prelude.{Result, Ok}
+use mathlib.Core.Path.{◌≡◌, ap, ◌∙◌}
+use mathlib.Core.List.{List, [], ◌∷◌, ◌++◌}
+use mathlib.Core.Bool.{Bool}
 use Prim.Native.Nat.{ℕ, ◌<◌}
-use Rattle.definitions.specs.Limits.{trail_limit}
 use Rattle.definitions.specs.Checks.{and_then, judge}
-use Rattle.definitions.specs.declared.error.Answer.{Answer}
-use Rattle.definitions.specs.declared.error.Answer.TheVariants.{Refused}
-use Rattle.definitions.specs.declared.account.Account.{Account}
+use Rattle.definitions.specs.declared.error.Error.{Error}
 use Rattle.definitions.specs.declared.account.Named.{Named}
 use Rattle.definitions.specs.declared.ticket.Ticket.{Ticket}
-use Rattle.definitions.proofs.Checks.{judge-append, left-held, is-accepted}
-use Rattle.definitions.proofs.Grants.{hop-good, rest-held}
-use Rattle.definitions.specs.Errors.{is_accepted}
-use Rattle.definitions.specs.declared.window.Window.{Window}
-use Rattle.definitions.specs.Decisions.{service_check, hop_checks, last_checks, tgt_checks, evidence_checks, direct_checks, s4u2self_checks, s4u2proxy_checks, past, hop_permitted, decide_direct, decide_s4u2self, decide_s4u2proxy}
+use Rattle.definitions.specs.Windows.{initial_window}
+use Rattle.definitions.specs.NewTickets.{initial_ticket, direct_ticket, s4u2self_ticket, s4u2proxy_ticket}
+use Rattle.definitions.specs.Decisions.{service_check, s4u2self_check, user_checks, hop_checks, last_checks, tgt_checks, evidence_checks, initial_checks, direct_checks, s4u2self_checks, s4u2proxy_checks, window_of, hop_window_of, hop_permitted, decide_initial, decide_direct, decide_s4u2self, decide_s4u2proxy}
 use Rattle.definitions.specs.declared.decision.Presented.{Presented}
 use Rattle.definitions.specs.declared.decision.Moment.{Moment}
-use Rattle.definitions.proofs.Decisions.{decided-append, past-then}
-use Rattle.rules.specs.Stages.{finish_direct, finish_s4u2self, finish_s4u2proxy}
+use Rattle.definitions.specs.Limits.{trail_limit}
+use Rattle.definitions.proofs.Grants.{hop-good}
+use Rattle.definitions.proofs.Decisions.{decided-append}
 
--- the answer of kind 4 behind its tickets, from its parts, and what it tells where it is no refusal
-pub hop-answer : (y : Account) (p : Bool) (e : Ticket) (m : Moment) (w : Window) (l h r : Answer) → l ≡ judge (last_checks m w) → h ≡ and_then (judge (hop_checks p e)) l
-    → r ≡ cond (service_check y).holds h (Refused (service_check y).error) → r ≡ judge (service_check y ∷ (hop_checks p e ++ last_checks m w))
-hop-answer y p e m w l h r el eh er = rw (er, eh, el, judge-append (hop_checks p e) (last_checks m w))
+-- kind 1: the user, the last
+pub initial_staged : (m : Moment) (f : Bool) (till : ℕ) (u : Named)
+    → decide_initial m f till u
+    ≡ and_then (judge (user_checks u.account))
+    (and_then (judge (last_checks m (initial_window m.clock u.account.lifetime till)))
+    (Ok (initial_ticket m.next f u (initial_window m.clock u.account.lifetime till))))
+unfolding decide_initial initial_checks
+initial_staged m f till u = decided-append (user_checks u.account) _ _
 
-pub hop-few : (y : Account) (p : Bool) (e : Ticket) (m : Moment) (w : Window) (r : Answer) → r ≡ judge (service_check y ∷ (hop_checks p e ++ last_checks m w))
-    → is_accepted r ≡ true → e.hops < trail_limit
-hop-few y p e m w r er h =
-    (hop-good p e
-    (left-held (hop_checks p e) (last_checks m w) (rest-held (service_check y) (hop_checks p e ++ last_checks m w) (sym er ∙ is-accepted r h)))).few
+-- kind 2: the TGT, the service, the last
+pub direct_staged : (m : Moment) (f : Bool) (till : ℕ) (g : Presented) (s : Named)
+    → decide_direct m f till g s
+    ≡ and_then (judge (tgt_checks m.clock g))
+    (and_then (judge (service_check s.account ∷ []))
+    (and_then (judge (last_checks m (window_of m s.account till g)))
+    (Ok (direct_ticket m.next f g.ticket g.client s.number (window_of m s.account till g)))))
+unfolding decide_direct direct_checks
+direct_staged m f till g s =
+    let w = window_of m s.account till g in
+    let t = direct_ticket m.next f g.ticket g.client s.number w in
+    decided-append (tgt_checks m.clock g) (service_check s.account ∷ last_checks m w) t
+    ∙ ap (and_then (judge (tgt_checks m.clock g))) (decided-append (service_check s.account ∷ []) (last_checks m w) t)
 
--- kind 2: the TGT, then the rest
-pub direct-staged : (m : Moment) (f : Bool) (till : ℕ) (g : Presented) (n : Named)
-    → decide_direct m f till g n ≡ past (judge (tgt_checks m.clock g)) (finish_direct m f till g n)
-unfolding decide_direct direct_checks finish_direct
-direct-staged m f till g n = decided-append (tgt_checks m.clock g) _ _
+-- kind 3: the TGT, Service 1, the user, the last
+pub s4u2self_staged : (m : Moment) (f : Bool) (till : ℕ) (g : Presented) (u : Named)
+    → decide_s4u2self m f till g u
+    ≡ and_then (judge (tgt_checks m.clock g))
+    (and_then (judge (s4u2self_check g.client ∷ []))
+    (and_then (judge (user_checks u.account))
+    (and_then (judge (last_checks m (window_of m g.client till g)))
+    (Ok (s4u2self_ticket m.next f g.ticket g.client u (window_of m g.client till g))))))
+unfolding decide_s4u2self s4u2self_checks
+s4u2self_staged m f till g u =
+    let w = window_of m g.client till g in
+    let t = s4u2self_ticket m.next f g.ticket g.client u w in
+    let xs = s4u2self_check g.client ∷ [] in
+    let ys = user_checks u.account in
+    decided-append (tgt_checks m.clock g) (xs ++ (ys ++ last_checks m w)) t
+    ∙ ap (and_then (judge (tgt_checks m.clock g)))
+    (decided-append xs (ys ++ last_checks m w) t ∙ ap (and_then (judge xs)) (decided-append ys (last_checks m w) t))
 
--- kind 3: the TGT, then the rest
-pub s4u2self-staged : (m : Moment) (f : Bool) (till : ℕ) (g : Presented) (n : Named)
-    → decide_s4u2self m f till g n ≡ past (judge (tgt_checks m.clock g)) (finish_s4u2self m f till g n)
-unfolding decide_s4u2self s4u2self_checks finish_s4u2self
-s4u2self-staged m f till g n = decided-append (tgt_checks m.clock g) _ _
-
--- kind 4: the TGT and the evidence, then the rest
-pub s4u2proxy-staged : (m : Moment) (cname resource : Bool) (till : ℕ) (g e : Presented) (n : Named)
-    → decide_s4u2proxy m cname resource till g e n
-    ≡ past (and_then (judge (tgt_checks m.clock g)) (judge (evidence_checks m.clock e g.ticket.client)))
-    (finish_s4u2proxy m (hop_permitted cname resource g e n) till g.ticket e.ticket n)
-unfolding decide_s4u2proxy s4u2proxy_checks finish_s4u2proxy
-s4u2proxy-staged m cname resource till g e n =
+-- kind 4: the TGT, the evidence, the service, the hop, the last
+pub s4u2proxy_staged : (m : Moment) (cname resource : Bool) (till : ℕ) (g e : Presented) (s : Named)
+    → decide_s4u2proxy m cname resource till g e s
+    ≡ and_then (judge (tgt_checks m.clock g))
+    (and_then (judge (evidence_checks m.clock e g.ticket.client))
+    (and_then (judge (service_check s.account ∷ []))
+    (and_then (judge (hop_checks (hop_permitted cname resource g e s) e.ticket))
+    (and_then (judge (last_checks m (hop_window_of m s.account till g e)))
+    (Ok (s4u2proxy_ticket m.next g.ticket e.ticket s.number (hop_window_of m s.account till g e)))))))
+unfolding decide_s4u2proxy s4u2proxy_checks
+s4u2proxy_staged m cname resource till g e s =
+    let w = hop_window_of m s.account till g e in
+    let t = s4u2proxy_ticket m.next g.ticket e.ticket s.number w in
     let xs = tgt_checks m.clock g in
     let ys = evidence_checks m.clock e g.ticket.client in
-    decided-append xs _ _ ∙ ap (past (judge xs)) (decided-append ys _ _) ∙ sym (past-then (judge xs) (judge ys) _)
+    let zs = service_check s.account ∷ [] in
+    let hs = hop_checks (hop_permitted cname resource g e s) e.ticket in
+    decided-append xs (ys ++ (zs ++ (hs ++ last_checks m w))) t
+    ∙ ap (and_then (judge xs))
+    (decided-append ys (zs ++ (hs ++ last_checks m w)) t
+    ∙ ap (and_then (judge ys))
+    (decided-append zs (hs ++ last_checks m w) t ∙ ap (and_then (judge zs)) (decided-append hs (last_checks m w) t)))
+
+-- a hop whose checks hold has room in its trail
+pub hop_few : (p : Bool) (e : Ticket) → judge (hop_checks p e) ≡ Ok tt → e.hops < trail_limit
+hop_few p e h = (hop-good p e h).few

@@ -1,6 +1,5 @@
 -- How the code of layer 2 goes along; no exported promise speaks of it.
 pub mod Flags
 pub mod NameSearch
-pub mod Stages
 pub mod Lanes
 pub mod LetterCase

@@ -8,7 +8,7 @@ ghost use Rattle.definitions.specs.Edits.{edit_of, readable_edit, keeps_name, ed
 
 use crate::name::{name_taken, same_name};
 use crate::words::{AccountWords, count_words, length_at, put_pair};
-use definitions::{ALL_FLAGS, Answer, Error, LAST_ACCOUNT, Name, SEND_WORD, TWO_8, TWO_32};
+use definitions::{ALL_FLAGS, Error, LAST_ACCOUNT, Name, SEND_WORD, TWO_8, TWO_32};
 use record::{both, good_name, pack_name, set_length};
 
 // Whether an edit's number, name and flags are good.
@@ -61,18 +61,18 @@ fn edit_row(
     send: u64,
     receive: u64,
     lifetime: u32,
-) -> Answer
+) -> Result<(), Error>
     requires { (n < account_limit) × (set_length name.length ≡ true) × (flags ≤ all_flags) }
     ensures { (s : List ℕ) → name ≡ name_of s → bytes_of name ≡ s → readable_edit (edit_of n s flags send receive lifetime) ≡ true → (result ≡ edit_answer (table_of words.old) (edit_of n s flags send receive lifetime)) × (words.new ≡ stored_by result words.old (edit_of n s flags send receive lifetime)) }
 {
     if !keeps_name(words, n, name) {
-        return Answer::Refused(Error::KDC_ERR_POLICY);
+        return Err(Error::KDC_ERR_POLICY);
     }
     if name_taken(words, n, name) {
-        return Answer::Refused(Error::KDC_ERR_PRINCIPAL_NOT_UNIQUE);
+        return Err(Error::KDC_ERR_PRINCIPAL_NOT_UNIQUE);
     }
     store_row(words, n, name, flags, send, receive, lifetime);
-    Answer::Accepted
+    Ok(())
 }
 
 // Sets one account whole, or refuses. What is not readable is refused before its name is packed.
@@ -84,13 +84,13 @@ pub fn edit_account(
     send: u64,
     receive: u64,
     lifetime: u32,
-) -> Answer
+) -> Result<(), Error>
     ensures answer { result ≡ edit_answer (table_of words.old) (edit_of number bytes.now flags send receive lifetime) }
     ensures words { words.new ≡ stored_by result words.old (edit_of number bytes.now flags send receive lifetime) }
     ensures table { table_of words.new ≡ edited (table_of words.old) (edit_of number bytes.now flags send receive lifetime) }
 {
     if !readable_edit(number, bytes, flags) {
-        return Answer::Refused(Error::KRB_ERR_GENERIC);
+        return Err(Error::KRB_ERR_GENERIC);
     }
     // That every row has its words among those that are lent is known from here on.
     count_words(words);

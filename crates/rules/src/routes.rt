@@ -34,7 +34,10 @@ impl Hop<'_> {
         ensures { result ≡ resource_route self.now.service2.account self.now.resource self.now.tgt.now.ticket.client self.now.evidence.now.ticket }
     {
         self.resource
-            && in_set(self.service2.account.receive, self.tgt.ticket.client as usize)
+            && in_set(
+                self.service2.account.receive,
+                self.tgt.ticket.client as usize,
+            )
             && !self.evidence.ticket.barred
     }
 

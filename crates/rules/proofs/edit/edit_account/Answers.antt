@@ -5,7 +5,7 @@ use Rattle.definitions.specs.Limits.{name_limit}
 use Rattle.definitions.specs.Fields.{Bytes}
 use Rattle.definitions.specs.AccountWords.{table_of}
 use Rattle.definitions.specs.declared.error.Error.TheVariants.{KRB_ERR_GENERIC}
-use Rattle.definitions.specs.declared.error.Answer.TheVariants.{Refused}
+use Rattle.std.specs.Prelude.{Err}
 use Rattle.definitions.specs.Edits.{edit_of, edit_checks, edit_answer}
 use Rattle.definitions.proofs.Edits.{readable-tells, table-edited}
 use Rattle.rules.specs.NameSearch.{bytes_of}
@@ -18,7 +18,7 @@ unfolding edit_checks
 returns-then-not-readable_edit c =
     let a = c.args in
     let r = c.readable_edit in
-    let h : edit_answer (table_of a.words.now) (edit_of a.number a.bytes.now a.flags a.send a.receive a.lifetime) ≡ Refused KRB_ERR_GENERIC =
+    let h : edit_answer (table_of a.words.now) (edit_of a.number a.bytes.now a.flags a.send a.receive a.lifetime) ≡ Err KRB_ERR_GENERIC =
     rw (sym (r.ensures a.send a.receive a.lifetime) ∙ c.if-not-readable_edit.true)
     in record {
       answer = sym h;
