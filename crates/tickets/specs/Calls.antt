@@ -1,6 +1,6 @@
 -- What the exported functions answer, in numbers, and the promises of the calls as a C caller has them.
 -- Assumes nothing.
-use Rattle.std.specs.Prelude.{ℕ, ◌≡◌, Bool, cond, List, [], ◌∷◌, length, get_or, leb, ltb}
+use Rattle.std.specs.Prelude.{ℕ, ◌≡◌, Bool, cond, List, [], ◌∷◌, length, get_or, leb, ltb, Option, Some, None, Result, Ok, Err}
 use Rattle.definitions.specs.Errors.{error_number, answer_number}
 use Rattle.definitions.specs.Limits.{last_account}
 use Rattle.definitions.specs.TicketRecords.{record_of, blank_ticket}
@@ -9,20 +9,12 @@ use Rattle.definitions.specs.Accounts.{Table, row_of}
 use Rattle.definitions.specs.ReadBack.{padded_name, account_fields, ticket_fields}
 use Rattle.definitions.specs.Output.{written_of, output_of}
 use Rattle.definitions.specs.Edits.{Edit}
-use Rattle.definitions.specs.Answers.{edit as an-edit, request as a-request, clear as a-clearing, Reply}
+use Rattle.definitions.specs.Answers.{edit as an-edit, request as a-request, clear as a-clearing}
 use Rattle.definitions.specs.Services.{Service, perform}
 use Rattle.definitions.specs.declared.error.Error.{Error}
 use Rattle.definitions.specs.declared.error.Error.TheVariants.{KRB_AP_ERR_MODIFIED, KRB_ERR_GENERIC}
-use Rattle.definitions.specs.declared.error.Answer.{Answer}
-use Rattle.definitions.specs.declared.error.Answer.TheVariants.{Accepted, Refused}
 use Rattle.definitions.specs.declared.ticket.Ticket.{Ticket}
-use Rattle.definitions.specs.declared.ticket.Reading.{Reading}
-use Rattle.definitions.specs.declared.ticket.Written.{Written}
-use Rattle.definitions.specs.declared.ticket.Written.TheVariants.{Length, Refused as Unwritten}
 use Rattle.definitions.specs.declared.request.Request.{Request}
-use Rattle.definitions.specs.declared.request.RequestReading.{RequestReading}
-use Rattle.definitions.specs.declared.descended.Descended.{Descended}
-use Rattle.definitions.specs.declared.descended.Descended.TheVariants.{Steps, Refused as NoDescent}
 use Rattle.tickets.specs.declared.TicketsAnswer.{TicketsAnswer}
 
 -- the version of the library, 1.0.0: 10000 for the major number, 100 for the minor
@@ -33,29 +25,22 @@ library_version = 10000
 abbrev pub error_answer : Error → TicketsAnswer
 error_answer error = record { error = error_number error; value = 0 }
 
+-- the answer of what gives a number, as a writer its length and a descent its steps: no error and the number, or a refusal
+abbrev pub value_answer : Result ℕ Error → TicketsAnswer
+value_answer (Ok number) = record { error = 0; value = number }
+value_answer (Err error) = error_answer error
+
 -- ---- A record, read and written again
--- R3.7: the writer's answer: no error and the record's length, or a refusal
-abbrev pub written_answer : Written → TicketsAnswer
-written_answer (Length written) = record { error = 0; value = written }
-written_answer (Unwritten error) = error_answer error
 
--- a ticket that was read is written to an output of so many bytes; a refusal of the reader stays one
-abbrev pub write_read : Answer → Ticket → ℕ → TicketsAnswer
-write_read Accepted ticket room = written_answer (written_of ticket room)
-write_read (Refused error) ticket room = error_answer error
+-- the answer to a record that is to be written again to an output of so many bytes: a refusal of the reader stays one
+abbrev pub rewrite_answer : Result Ticket Error → ℕ → TicketsAnswer
+rewrite_answer (Ok ticket) room = value_answer (written_of ticket room)
+rewrite_answer (Err error) room = error_answer error
 
--- the answer to a record that is to be written again to an output of so many bytes
-abbrev pub rewrite_answer : Reading → ℕ → TicketsAnswer
-rewrite_answer reading room = write_read reading.answer reading.ticket room
-
--- the output after the writer, or as it was
-abbrev pub output_read : Answer → Ticket → List ℕ → List ℕ
-output_read Accepted ticket output = output_of ticket output
-output_read (Refused error) ticket output = output
-
--- the output after that call
-abbrev pub rewrite_output : Reading → List ℕ → List ℕ
-rewrite_output reading output = output_read reading.answer reading.ticket output
+-- the output after that call: that of the writer, or as it was
+abbrev pub rewrite_output : Result Ticket Error → List ℕ → List ℕ
+rewrite_output (Ok ticket) output = output_of ticket output
+rewrite_output (Err error) output = output
 
 -- ---- Two words, compared
 -- R2.12: 1 where they match, 0 where they do not
@@ -69,14 +54,10 @@ request_fields request =
     kind_number request.kind ∷ request.options ∷ request.pac_options ∷ request.till ∷ request.tgt.number
     ∷ request.evidence.number ∷ request.user.at ∷ request.user.len ∷ request.service.at ∷ request.service.len ∷ []
 
--- the numbers of a request that was read, or what stood there
-abbrev pub fields_read : Answer → Request → List ℕ → List ℕ
-fields_read Accepted request before = request_fields request
-fields_read (Refused error) request before = before
-
--- the ten fields after a request was read
-abbrev pub fields_after : RequestReading → List ℕ → List ℕ
-fields_after reading before = fields_read reading.answer reading.request before
+-- the ten fields after a request was read: its numbers, or what stood there
+abbrev pub fields_after : Result Request Error → List ℕ → List ℕ
+fields_after (Ok request) before = request_fields request
+fields_after (Err error) before = before
 
 -- ---- An edit of the service
 -- what an edit promises a C caller: the number of the call's answer, and the words that it leaves, whatever ledger stands beside the accounts
@@ -90,18 +71,15 @@ pub record EditCall (before : List ℕ) (change : Edit) (number : ℕ) (after : 
 abbrev pub length_answer : Ticket → TicketsAnswer
 length_answer ticket = record { error = 0; value = length (record_of ticket) }
 
--- a grant or a refusal, in numbers
-abbrev pub answer_in : Answer → Ticket → TicketsAnswer
-answer_in Accepted ticket = length_answer ticket
-answer_in (Refused error) ticket = error_answer error
-
--- the reply to a request, in numbers: no error and the length of the ticket's record, or the refusal's number
-abbrev pub request_answer : Reply → TicketsAnswer
-request_answer reply = answer_in reply.answer reply.ticket
+-- the answer to a request, in numbers: no error and the length of the ticket's record, or the refusal's number
+abbrev pub request_answer : Result (Option Ticket) Error → TicketsAnswer
+request_answer (Ok (Some ticket)) = length_answer ticket
+request_answer (Ok None) = record { error = 0; value = 0 }
+request_answer (Err error) = error_answer error
 
 -- what a request promises a C caller: the call's answer in numbers, and the output and the words that it leaves
 pub record RequestCall (before : Service) (bytes : List ℕ) (clock : ℕ) (output : List ℕ) (answer : TicketsAnswer) (written : List ℕ) (after : Service) : Type 0 where
-  pub answered : answer ≡ request_answer (perform before (a-request bytes clock output)).reply
+  pub answered : answer ≡ request_answer (perform before (a-request bytes clock output)).reply.answer
   pub laid : written ≡ (perform before (a-request bytes clock output)).reply.output
   pub left : after ≡ (perform before (a-request bytes clock output)).service
 
@@ -110,12 +88,6 @@ pub record RequestCall (before : Service) (bytes : List ℕ) (clock : ℕ) (outp
 pub record ClearCall (before : Service) (clock : ℕ) (taken : ℕ) (after : Service) : Type 0 where
   pub answered : taken ≡ (perform before (a-clearing clock)).reply.cleared
   pub left : after ≡ (perform before (a-clearing clock)).service
-
--- ---- A descent
--- R7.4: no error and the steps, or 41
-abbrev pub descent_answer : Descended → TicketsAnswer
-descent_answer (Steps steps) = record { error = 0; value = steps }
-descent_answer (NoDescent error) = error_answer error
 
 -- ---- An account, read
 -- R2.13: 60 to a number above the last account's
@@ -142,7 +114,7 @@ ticket_of_place tickets place = get_or tickets place blank_ticket
 -- R7.7: its record: 41, then what the writer answers to an output of so many bytes
 abbrev pub record_at_answer : List Ticket → ℕ → ℕ → TicketsAnswer
 record_at_answer tickets place room =
-    cond (is_held_at tickets place) (written_answer (written_of (ticket_of_place tickets place) room)) (error_answer KRB_AP_ERR_MODIFIED)
+    cond (is_held_at tickets place) (value_answer (written_of (ticket_of_place tickets place) room)) (error_answer KRB_AP_ERR_MODIFIED)
 
 -- the output after that call
 abbrev pub record_at_output : List Ticket → ℕ → List ℕ → List ℕ
