@@ -1,6 +1,0 @@
--- The bytes that are left get fewer.
-use Rattle.std.proofs.Common.{◌-◌, length}
-use Rattle.console.proofs.past_spaces.Given as goal
-
-abbrev pub decreases-loop-at : goal.decreases-loop-at
-decreases-loop-at l = length l.line - l.at

@@ -1,0 +1,226 @@
+// The calls that a line can make, and how they are read from its words.
+use crate::failure::{Failure, Wrong};
+use crate::lines::LONGEST_LINE;
+use definitions::Kind;
+use std::alloc::Global;
+use std::num::TryFromIntError;
+use std::str;
+
+// The length of the longest name that a request has room for.
+pub const LONGEST_NAME: usize = 255;
+
+// The option of a hop.
+const CNAME_IN_ADDL_TKT: u32 = 0x00020000;
+
+#[derive(Drop)]
+pub enum Command<'a> {
+    Fresh,
+    Edit(Edit<'a>),
+    Find(&'a [u8]),
+    Request(Request),
+    Clear(u32),
+    Descent(u32),
+    Total,
+    Ledger,
+    Form(Form<'a>),
+}
+
+impl<'a> Command<'a> {
+    // The call of a line.
+    pub fn parse(alloc: Global, line: &'a [u8]) -> Result<Self, Failure> {
+        if line.len() > LONGEST_LINE {
+            return Err(Wrong::Long.into());
+        }
+        let words: Vec<&[u8]> = line.split(|byte| *byte == b' ').collect(alloc)?;
+        let [command, arguments @ ..] = words.as_slice() else {
+            return Err(Wrong::Command.into());
+        };
+        match *command {
+            b"fresh" => Ok(Command::Fresh.alone(arguments)?),
+            b"edit" => Ok(Command::Edit(Edit::parse(arguments)?)),
+            b"find" => Ok(Command::Find(only(arguments)?)),
+            b"request" => Ok(Command::Request(Request::parse(alloc, arguments)?)),
+            b"clear" => Ok(Command::Clear(number(only(arguments)?)?)),
+            b"descent" => Ok(Command::Descent(number(only(arguments)?)?)),
+            b"total" => Ok(Command::Total.alone(arguments)?),
+            b"ledger" => Ok(Command::Ledger.alone(arguments)?),
+            b"initial" => Ok(Command::Form(Form::initial(arguments)?)),
+            b"direct" => Ok(Command::Form(Form::with_tgt(Kind::Direct, arguments)?)),
+            b"self" => Ok(Command::Form(Form::with_tgt(Kind::S4U2self, arguments)?)),
+            b"proxy" => Ok(Command::Form(Form::proxy(arguments)?)),
+            _ => Err(Wrong::Command.into()),
+        }
+    }
+
+    // A call that has no arguments.
+    fn alone(self, arguments: &[&[u8]]) -> Result<Self, Wrong> {
+        if arguments.is_empty() {
+            Ok(self)
+        } else {
+            Err(Wrong::Words)
+        }
+    }
+}
+
+// What an edit sets.
+#[derive(Clone, Copy)]
+pub struct Edit<'a> {
+    pub number: u32,
+    pub name: &'a [u8],
+    pub flags: u32,
+    pub send: u64,
+    pub receive: u64,
+    pub lifetime: u32,
+}
+
+impl<'a> Edit<'a> {
+    fn parse(arguments: &[&'a [u8]]) -> Result<Self, Wrong> {
+        let &[account, name, flags, send, receive, lifetime] = arguments else {
+            return Err(Wrong::Words);
+        };
+        Ok(Edit {
+            number: number(account)?,
+            name,
+            flags: number(flags)?,
+            send: number(send)?,
+            receive: number(receive)?,
+            lifetime: number(lifetime)?,
+        })
+    }
+}
+
+// A request as it is sent, and the length of its output.
+#[derive(Drop)]
+pub struct Request {
+    pub clock: u32,
+    pub room: usize,
+    pub bytes: Vec<u8>,
+}
+
+impl Request {
+    fn parse(alloc: Global, arguments: &[&[u8]]) -> Result<Self, Failure> {
+        let &[clock, room, bytes] = arguments else {
+            return Err(Wrong::Words.into());
+        };
+        Ok(Request {
+            clock: number(clock)?,
+            room: number(room)?,
+            bytes: decoded(alloc, bytes)?,
+        })
+    }
+}
+
+// A request that the console writes: its tickets by their numbers, the options that were given, and the name of the user or of the service.
+#[derive(Clone, Copy)]
+pub struct Form<'a> {
+    pub kind: Kind,
+    pub clock: u32,
+    pub tgt: Option<u16>,
+    pub evidence: Option<u16>,
+    pub options: Option<u32>,
+    pub pac_options: Option<u32>,
+    pub till: Option<u32>,
+    pub name: &'a [u8],
+}
+
+impl<'a> Form<'a> {
+    fn initial(arguments: &[&'a [u8]]) -> Result<Self, Wrong> {
+        match arguments {
+            [clock, user, optional @ ..] if optional.len() <= 2 => Ok(Form {
+                kind: Kind::Initial,
+                clock: number(clock)?,
+                tgt: None,
+                evidence: None,
+                options: optional_number(optional, 0)?,
+                pac_options: None,
+                till: optional_number(optional, 1)?,
+                name: short(user)?,
+            }),
+            _ => Err(Wrong::Words),
+        }
+    }
+
+    // A request that presents its TGT alone.
+    fn with_tgt(kind: Kind, arguments: &[&'a [u8]]) -> Result<Self, Wrong> {
+        match arguments {
+            [clock, tgt, name, optional @ ..] if optional.len() <= 2 => Ok(Form {
+                kind,
+                clock: number(clock)?,
+                tgt: Some(number(tgt)?),
+                evidence: None,
+                options: optional_number(optional, 0)?,
+                pac_options: None,
+                till: optional_number(optional, 1)?,
+                name: short(name)?,
+            }),
+            _ => Err(Wrong::Words),
+        }
+    }
+
+    fn proxy(arguments: &[&'a [u8]]) -> Result<Self, Wrong> {
+        match arguments {
+            [clock, tgt, evidence, service, optional @ ..] if optional.len() <= 3 => Ok(Form {
+                kind: Kind::S4U2proxy,
+                clock: number(clock)?,
+                tgt: Some(number(tgt)?),
+                evidence: Some(number(evidence)?),
+                options: optional_number(optional, 0)?.or(Some(CNAME_IN_ADDL_TKT)),
+                pac_options: optional_number(optional, 1)?,
+                till: optional_number(optional, 2)?,
+                name: short(service)?,
+            }),
+            _ => Err(Wrong::Words),
+        }
+    }
+
+    // The map bits of the options that were given.
+    pub fn fields(self) -> u32 {
+        u32::from(self.options.is_some()) << 1
+            | u32::from(self.pac_options.is_some()) << 2
+            | u32::from(self.till.is_some()) << 3
+    }
+}
+
+// The one argument of a call.
+fn only<'a>(arguments: &[&'a [u8]]) -> Result<&'a [u8], Wrong> {
+    match arguments {
+        [argument] => Ok(argument),
+        _ => Err(Wrong::Words),
+    }
+}
+
+// The number that a word is.
+fn number<T: TryFrom<u64, Error = TryFromIntError>>(word: &[u8]) -> Result<T, Wrong> {
+    let text = str::from_utf8(word)?;
+    let (digits, radix) = match text.strip_prefix("0x") {
+        Some(digits) => (digits, 16),
+        None => (text, 10),
+    };
+    if digits.starts_with('+') {
+        return Err(Wrong::Number);
+    }
+    Ok(T::try_from(u64::from_str_radix(digits, radix)?)?)
+}
+
+// The number of a word that need not be there.
+fn optional_number(words: &[&[u8]], index: usize) -> Result<Option<u32>, Wrong> {
+    words.get(index).map(|word| number(word)).transpose()
+}
+
+// A name that a request has room for.
+fn short(name: &[u8]) -> Result<&[u8], Wrong> {
+    if name.len() <= LONGEST_NAME {
+        Ok(name)
+    } else {
+        Err(Wrong::Name)
+    }
+}
+
+// The bytes that a word spells.
+fn decoded(alloc: Global, word: &[u8]) -> Result<Vec<u8>, Failure> {
+    match word {
+        b"" => Err(Wrong::Bytes.into()),
+        b"-" => Ok(Vec::new(alloc)),
+        _ => Ok(hex::decode(alloc, word)?),
+    }
+}

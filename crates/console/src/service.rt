@@ -1,0 +1,192 @@
+// The service behind the console: its accounts and its ledger, and the calls that are made of it.
+use crate::command::{Command, Edit, Form};
+use crate::failure::Failure;
+use crate::value::Value;
+use definitions::{
+    ACCOUNT_LIMIT, ACCOUNTS_SIZE, Answer, Descended, Error, Kind, LEDGER_SIZE, LONGEST_RECORD,
+    Ticket, Written,
+};
+use ledger::LedgerWords;
+use rules::AccountWords;
+use std::alloc::Global;
+
+// Room for a request that the console writes.
+const REQUEST_ROOM: usize = 4096;
+
+// Room for a request's output.
+const OUTPUT_ROOM: usize = 64;
+
+#[derive(Drop)]
+pub struct Service {
+    alloc: Global,
+    accounts: AccountWords,
+    ledger: LedgerWords,
+}
+
+impl Service {
+    // A fresh service.
+    pub fn new(alloc: Global) -> Self {
+        let mut accounts = [0; ACCOUNTS_SIZE];
+        let mut ledger = [0; LEDGER_SIZE];
+        ledger::fresh(&mut accounts, &mut ledger);
+        Service {
+            alloc,
+            accounts,
+            ledger,
+        }
+    }
+
+    // Makes the call of a line.
+    pub fn call(&mut self, line: &[u8]) -> Result<Value, Failure> {
+        self.perform(Command::parse(self.alloc, line)?)
+    }
+
+    fn perform(&mut self, command: Command<'_>) -> Result<Value, Failure> {
+        match command {
+            Command::Fresh => {
+                ledger::fresh(&mut self.accounts, &mut self.ledger);
+                Ok(Value::Nothing)
+            }
+            Command::Edit(edit) => self.edit(edit),
+            Command::Find(name) => self.find(name),
+            Command::Request(request) => {
+                let room = request.room.min(OUTPUT_ROOM);
+                self.request(request.bytes.as_slice(), request.clock, room)
+            }
+            Command::Clear(clock) => {
+                Ok(Value::Number(ledger::clear(&mut self.ledger, clock) as u64))
+            }
+            Command::Descent(number) => Ok(Value::Number(u64::from(self.descent(number)?))),
+            Command::Total => Ok(Value::Number(ledger::day_total(&self.ledger))),
+            Command::Ledger => self.records(),
+            Command::Form(form) => {
+                let bytes = self.write(form)?;
+                self.request(bytes.as_slice(), form.clock, OUTPUT_ROOM)
+            }
+        }
+    }
+
+    fn edit(&mut self, edit: Edit<'_>) -> Result<Value, Failure> {
+        accepted(ledger::edit(
+            &mut self.accounts,
+            edit.number,
+            edit.name,
+            edit.flags,
+            edit.send,
+            edit.receive,
+            edit.lifetime,
+        ))?;
+        Ok(Value::Nothing)
+    }
+
+    fn find(&self, name: &[u8]) -> Result<Value, Failure> {
+        let number = rules::find_name(&self.accounts, name);
+        if number < ACCOUNT_LIMIT {
+            Ok(Value::Number(number as u64))
+        } else {
+            Err(Failure::Refused(Error::KDC_ERR_C_PRINCIPAL_UNKNOWN))
+        }
+    }
+
+    fn descent(&self, number: u32) -> Result<u32, Error> {
+        match ledger::descent(&self.ledger, number) {
+            Descended::Steps(steps) => Ok(steps),
+            Descended::Refused(error) => Err(error),
+        }
+    }
+
+    // Sends a request, with an output of so many bytes.
+    fn request(&mut self, bytes: &[u8], clock: u32, room: usize) -> Result<Value, Failure> {
+        let mut output = vec![in self.alloc; 0; room]?;
+        let reply = ledger::request(
+            &mut self.accounts,
+            &mut self.ledger,
+            bytes,
+            clock,
+            output.as_mut_slice(),
+        );
+        accepted(reply.answer)?;
+        output.truncate(reply.length);
+        Ok(Value::Record(hex::encode(self.alloc, output.as_slice())?))
+    }
+
+    // The records of the tickets that are held.
+    fn records(&self) -> Result<Value, Failure> {
+        let mut records = Vec::new(self.alloc);
+        for place in 0..ledger::count_held(&self.ledger) {
+            let record = self.record(ledger::held_at(&self.ledger, place).ticket)?;
+            records.push(hex::encode(self.alloc, record.as_slice())?)?;
+        }
+        Ok(Value::Records(records))
+    }
+
+    // The record of a ticket.
+    fn record(&self, ticket: Ticket) -> Result<Vec<u8>, Failure> {
+        let mut bytes = vec![in self.alloc; 0; LONGEST_RECORD]?;
+        let length = written(record::write_ticket(ticket, bytes.as_mut_slice()))?;
+        bytes.truncate(length);
+        Ok(bytes)
+    }
+
+    // The record of the ticket of a number, also of one that is not held; no bytes where no ticket is presented.
+    fn presented(&self, number: Option<u16>) -> Result<Vec<u8>, Failure> {
+        match number {
+            Some(number) => self.record(self.ticket(number)),
+            None => Ok(Vec::new(self.alloc)),
+        }
+    }
+
+    // The ticket of a number, or one that no call makes: an initial one without INITIAL.
+    fn ticket(&self, number: u16) -> Ticket {
+        let held = ledger::first_held(&self.ledger, number);
+        if held.found {
+            held.ticket
+        } else {
+            Ticket {
+                number,
+                ..record::blank_ticket()
+            }
+        }
+    }
+
+    // The bytes of a request.
+    fn write(&self, form: Form<'_>) -> Result<Vec<u8>, Failure> {
+        let tgt = self.presented(form.tgt)?;
+        let evidence = self.presented(form.evidence)?;
+        let (user, service): (&[u8], &[u8]) = match form.kind {
+            Kind::Initial | Kind::S4U2self => (form.name, b""),
+            Kind::Direct | Kind::S4U2proxy => (b"", form.name),
+        };
+        let mut bytes = vec![in self.alloc; 0; REQUEST_ROOM]?;
+        let length = written(record::write_request(
+            form.kind as u32 + 1,
+            form.options.unwrap_or(0),
+            form.pac_options.unwrap_or(0),
+            form.till.unwrap_or(0),
+            tgt.as_slice(),
+            evidence.as_slice(),
+            user,
+            service,
+            form.fields(),
+            bytes.as_mut_slice(),
+        ))?;
+        bytes.truncate(length);
+        Ok(bytes)
+    }
+}
+
+// What a call answers that gives no value.
+fn accepted(answer: Answer) -> Result<(), Error> {
+    match answer {
+        Answer::Accepted => Ok(()),
+        Answer::Refused(error) => Err(error),
+    }
+}
+
+// What a writer answers.
+fn written(written: Written) -> Result<usize, Error> {
+    match written {
+        Written::Length(length) => Ok(length),
+        Written::Refused(error) => Err(error),
+    }
+}
