@@ -2,7 +2,7 @@
 -- Assumes nothing.
 use mathlib.Core.Path.{◌≡◌, refl, sym, ap, ◌∙◌}
 use mathlib.Core.Bool.{Bool, true, false, not, ◌&&◌, cond, false≢true}
-use mathlib.Core.List.{List, [], ◌∷◌}
+use mathlib.Core.List.{List}
 use Prim.Native.Nat.{ℕ, zero, suc, ◌+◌, ◌-◌, ◌*◌, ◌/◌, ◌%◌, ◌^◌, ◌≤◌, ◌<◌, min}
 use native.Mathlib.Nat.{add-zero, mul-zero, mul-suc, div-one, mod-eq_of_lt}
 use native.Mathlib.Omega.{arith}
@@ -11,19 +11,21 @@ use lib.Seq.{ext_get_or}
 use lib.Bits.{bit_and, and_zero_r, and_mask}
 use lib.Pow.{shr-shr, high}
 use lib.Dec.{leb, eqb, ltb, lit<}
-use borrow.Author.Tests.{eq-eqb, ne_eqb, eqb-true, leb-true, lt-ltb, le-ltb, ltb-true, ltb-false}
+use borrow.Author.Tests.{eq-eqb, ne_eqb, eqb-true, leb-true, ltb-true, ltb-false}
 use Rattle.definitions.specs.Limits.{account_limit, name_limit, byte_bits}
 use Rattle.definitions.proofs.Bools.{and_left, and_right, same_test}
 use Rattle.definitions.proofs.Names.{agree-each, each-agree, bytes-each, each-bytes}
 use Rattle.definitions.specs.Fields.{Bytes}
-use Rattle.definitions.specs.Accounts.{Table, row_of}
+use Rattle.definitions.specs.Accounts.{row_of}
 use Rattle.definitions.specs.AccountWords.{row_start, length_at, name_at, set_length, row_at, rows_from, table_of}
 use Rattle.definitions.specs.Words.{lane_of, lane_at, pack_at}
-use Rattle.definitions.specs.Names.{name_of, folded, agree, same_name, matches, number_from, find_name, name_taken}
+use Rattle.definitions.specs.Names.{name_of, good_name, good_bytes, folded, agree, same_name, matches, number_from, find_name, name_taken}
 use Rattle.definitions.specs.declared.account.Name.{Name}
 use Rattle.rules.specs.Lanes.{all_lanes}
-use Rattle.rules.specs.NameSearch.{words_of, bytes_of, words_agree, cut_word, has_name, first_from}
-use Rattle.definitions.proofs.AccountWords.{rows-length, row-of, row-set, row-unset, name-length, name-byte}
+use Rattle.std.specs.List.{find, list_any, range_with_len}
+use Rattle.std.specs.Prelude.{Some, unwrap_or, ◌||◌}
+use Rattle.rules.specs.NameSearch.{words_of, bytes_of, words_agree, cut_word, has_name}
+use Rattle.definitions.proofs.AccountWords.{row-of, row-set, row-unset, name-length, name-byte}
 use Rattle.definitions.proofs.Words.{pack-lane, lane-small, lanes-same}
 use Rattle.rules.proofs.Lanes.{and-lane, all-lane, all_past}
 
@@ -37,6 +39,13 @@ three P a b c (suc (suc (suc k))) h = absurd (omega arith)
 -- a length that a name has is at most 24, and not 0
 pub set-most : (n : ℕ) → set_length n ≡ true → n ≤ name_limit
 set-most n h = leb-true n name_limit (and_right (leb 1 n) (leb n name_limit) h)
+
+-- and a good name has such a length
+pub good-set : (s : List ℕ) → good_name s ≡ true → set_length (length s) ≡ true
+unfolding good_name
+good-set s h =
+    let l = leb (length s) name_limit in
+    rw (and_left (leb 1 (length s)) (l && good_bytes s (length s)) h, and_left l (good_bytes s (length s)) (and_right (leb 1 (length s)) (l && good_bytes s (length s)) h))
 
 pub set-least : (n : ℕ) → set_length n ≡ true → 0 < n
 set-least n h = leb-true 1 n (and_left (leb 1 n) (leb n name_limit) h)
@@ -139,6 +148,11 @@ known-set w n l = rw (row-of w n l) (by (set_length (length_at w n)) refl)
     by true q = rw (row-set w n q)
     by false q = rw (row-unset w n q)
 
+-- the table has the row of the words
+pub has-row : (w : List ℕ) (n : ℕ) (f : Bool) (s : List ℕ) → n < account_limit
+    → has_name w n f s ≡ ((row_of (table_of w) n).account.known && same_name f (row_of (table_of w) n).name s)
+has-row w n f s l = rw (row-of w n l)
+
 -- another length, or one that no row that is set has
 row_other : (w : List ℕ) (n : ℕ) (f : Bool) (s : List ℕ) → (set_length (length_at w n) ≡ true → length_at w n ≡ length s → ⊥)
     → ((row_at w n).account.known && same_name f (row_at w n).name s) ≡ false
@@ -150,53 +164,43 @@ row_other w n f s d = by (set_length (length_at w n)) refl
     by true q = rw (row-set w n q, name-length, ne_eqb (length_at w n) (length s) (d q))
     by false q = rw (row-unset w n q)
 
-module _ (w : List ℕ) (n : ℕ) (f : Bool) (m : Name) (l : n < account_limit) where
+module _ (w : List ℕ) (n : ℕ) (f : Bool) (m : Name) where
   pub length-apart : (length_at w n ≡ m.length → ⊥) → has_name w n f (bytes_of m) ≡ false
-  length-apart d = rw (row-of w n l) (row_other w n f (bytes_of m) (λ q e. d (e ∙ name-length (words_of m) 0 m.length)))
+  length-apart d = row_other w n f (bytes_of m) (λ q e. d (e ∙ name-length (words_of m) 0 m.length))
 
-module _ (w : List ℕ) (n : ℕ) (f : Bool) (m : Name) (l : n < account_limit) (h : set_length m.length ≡ true) (e : length_at w n ≡ m.length) where
   -- the bytes decide
-  pub named-bytes : has_name w n f (bytes_of m) ≡ agree f (name_at w (row_start n) m.length) (bytes_of m) m.length
+  pub named-bytes : set_length m.length ≡ true → length_at w n ≡ m.length → has_name w n f (bytes_of m) ≡ agree f (name_at w (row_start n) m.length) (bytes_of m) m.length
   unfolding same_name
-  named-bytes =
-      rw (row-of w n l, row-set w n (rw e h), name-length, name-length, eq-eqb (length_at w n) m.length e, e)
+  named-bytes h e = rw (row-set w n (rw e h), name-length, name-length, eq-eqb (length_at w n) m.length e, e)
 
--- ---- The search: found at i, or further on
-pub first_step : (w : List ℕ) (k i : ℕ) (s : List ℕ) → i < account_limit
-    → first_from k i (rows_from w i (account_limit - i)) s
-    ≡ cond (not (eqb i k) && has_name w i true s) i (first_from k (i + 1) (rows_from w (i + 1) (account_limit - (i + 1))) s)
-unfolding rows_from first_from
-first_step w k i s l =
-    let e : account_limit - i ≡ suc (63 - i) = omega arith in
-    let f : account_limit - (i + 1) ≡ 63 - i = omega arith in
-    rw (e, f, row-of w i l)
-
-pub first-end : (w : List ℕ) (k i : ℕ) (s : List ℕ) → i ≡ account_limit → first_from k i (rows_from w i (account_limit - i)) s ≡ account_limit
-unfolding rows_from first_from
-first-end w k i s e = rw e
-
--- where no row is left out it is the account that a name stands for
-first_of : (a : Table) (k n : ℕ) (s : List ℕ) → n + length a ≤ k → first_from k n a s ≡ number_from n a s
-unfolding first_from number_from
-first_of [] k n s h = refl
-first_of (x ∷ xs) k n s h = rw (ne_eqb n k (λ e. omega arith), first_of xs k (n + 1) s (omega arith))
-
-pub first_found : (w : List ℕ) (s : List ℕ) → first_from account_limit 0 (table_of w) s ≡ find_name (table_of w) s
-first_found w s = first_of (table_of w) account_limit 0 s (omega (arith, rows-length w 0 account_limit))
-
--- where one is found another account has the name
-first-other : (a : Table) (k n : ℕ) (s : List ℕ) → ltb (first_from k n a s) (n + length a) ≡ name_taken k n a s
-unfolding first_from name_taken
-first-other [] k n s = le-ltb n (n + 0) (omega arith)
-first-other (x ∷ xs) k n s = by (not (eqb n k) && matches x s) (first-other xs k (n + 1) s)
+-- ---- The search
+-- the first row that matches, from a number on, is the account that a name stands for
+found_from : (w s : List ℕ) (i n : ℕ) → unwrap_or (find (λ k. matches (row_at w k) s) (range_with_len i n)) (i + n) ≡ number_from i (rows_from w i n) s
+unfolding rows_from number_from
+found_from w s i zero = omega arith
+found_from w s i (suc n) = by (matches (row_at w i) s) (found_from w s (i + 1) n)
   where
-    by : (p : Bool) → ltb (first_from k (n + 1) xs s) (n + 1 + length xs) ≡ name_taken k (n + 1) xs s
-        → ltb (cond p n (first_from k (n + 1) xs s)) (n + suc (length xs)) ≡ cond p true (name_taken k (n + 1) xs s)
-    by true r = lt-ltb n (n + suc (length xs)) (omega arith)
-    by false r = let e : n + suc (length xs) ≡ n + 1 + length xs = omega arith in rw e r
+    by : (p : Bool) → unwrap_or (find (λ k. matches (row_at w k) s) (range_with_len (i + 1) n)) (i + 1 + n) ≡ number_from (i + 1) (rows_from w (i + 1) n) s
+        → unwrap_or (cond p (Some i) (find (λ k. matches (row_at w k) s) (range_with_len (i + 1) n))) (i + suc n) ≡ cond p i (number_from (i + 1) (rows_from w (i + 1) n) s)
+    by true h = refl
+    by false h = let e : i + suc n ≡ i + 1 + n = omega arith in rw e h
 
-pub first_taken : (w : List ℕ) (k : ℕ) (s : List ℕ) → ltb (first_from k 0 (table_of w) s) account_limit ≡ name_taken k 0 (table_of w) s
-first_taken w k s = let e : 0 + length (table_of w) ≡ account_limit = omega (arith, rows-length w 0 account_limit) in rw e at (first-other (table_of w) k 0 s)
+pub find-rows : (w s : List ℕ) → unwrap_or (find (λ k. matches (row_at w k) s) (range_with_len 0 account_limit)) account_limit ≡ find_name (table_of w) s
+find-rows w s = found_from w s 0 account_limit
+
+-- some other row matches where another account has the name
+taken_from : (w s : List ℕ) (number i n : ℕ) → list_any (λ k. not (eqb k number) && matches (row_at w k) s) (range_with_len i n) ≡ name_taken number i (rows_from w i n) s
+unfolding rows_from name_taken
+taken_from w s number i zero = refl
+taken_from w s number i (suc n) = by (not (eqb i number) && matches (row_at w i) s) (taken_from w s number (i + 1) n)
+  where
+    by : (p : Bool) → list_any (λ k. not (eqb k number) && matches (row_at w k) s) (range_with_len (i + 1) n) ≡ name_taken number (i + 1) (rows_from w (i + 1) n) s
+        → (p || list_any (λ k. not (eqb k number) && matches (row_at w k) s) (range_with_len (i + 1) n)) ≡ cond p true (name_taken number (i + 1) (rows_from w (i + 1) n) s)
+    by true r = refl
+    by false r = r
+
+pub any-rows : (w s : List ℕ) (number : ℕ) → list_any (λ k. not (eqb k number) && matches (row_at w k) s) (range_with_len 0 account_limit) ≡ name_taken number 0 (table_of w) s
+any-rows w s number = taken_from w s number 0 account_limit
 
 -- ---- The bytes of a packed name
 packed_byte : (s : List ℕ) (k : ℕ) → Bytes s → k < name_limit → lane_at byte_bits (words_of (name_of s)) 0 k ≡ get_or s k 0

@@ -1,6 +1,6 @@
 -- Laws of windows: one that rests on tickets is the window of a lifetime and of till, which ends with each of them too (R5.9).
 -- Assumes nothing.
-use mathlib.Core.Path.{◌≡◌, refl, ap, ◌∙◌}
+use mathlib.Core.Path.{◌≡◌, refl}
 use mathlib.Core.Bool.{Bool, true, false, cond}
 use Prim.Native.Nat.{ℕ}
 use native.Mathlib.Omega.{arith}
@@ -10,17 +10,17 @@ use Rattle.definitions.specs.Windows.{full_window, wished, initial_window, grant
 use Rattle.definitions.specs.declared.window.Window.{Window}
 
 -- which of two ends is looked at first plays no part
-until_wished : (w : Window) (till n : ℕ) → until (wished till w) n ≡ wished till (until w n)
-until_wished w till n = by (eqb till 0)
+until-wished : (w : Window) (till n : ℕ) → until (wished till w) n ≡ wished till (until w n)
+until-wished w till n = by (eqb till 0)
   where
     by : (p : Bool) → until (cond p w (until w till)) n ≡ cond p (until w n) (until (until w n) till)
     by true = refl
     by false = search arith
 
-pub until_initial : (clock lifetime till n : ℕ) → until (initial_window clock lifetime till) n ≡ grant_window clock lifetime till n
+pub until-initial : (clock lifetime till n : ℕ) → until (initial_window clock lifetime till) n ≡ grant_window clock lifetime till n
 unfolding initial_window grant_window
-until_initial clock lifetime till n = until_wished (full_window clock lifetime) till n
+until-initial clock lifetime till n = until-wished (full_window clock lifetime) till n
 
-pub until_until : (clock lifetime till n m : ℕ) → until (until (initial_window clock lifetime till) n) m ≡ hop_window clock lifetime till n m
+pub until-grant : (clock lifetime till n m : ℕ) → until (grant_window clock lifetime till n) m ≡ hop_window clock lifetime till n m
 unfolding grant_window hop_window
-until_until clock lifetime till n m = ap (λ w. until w m) (until_initial clock lifetime till n) ∙ until_wished (until (full_window clock lifetime) n) till m
+until-grant clock lifetime till n m = until-wished (until (full_window clock lifetime) n) till m

@@ -1,12 +1,11 @@
--- How the code searches for a name: the lowest row that matches, where a row is compared word by word (R2.6, R2.7, R2.9). No exported promise
--- speaks of it; the laws of the same name tie it to `find_name` and `name_taken`.
+-- How the code compares a row with a name, word by word (R2.6, R2.7, R2.9). No exported promise speaks of it; the laws of the same name tie it to
+-- `find_name` and `name_taken`.
 -- Assumes nothing.
-use Rattle.std.specs.Prelude.{ℕ, ◌+◌, ◌-◌, ◌*◌, min, Bool, not, ◌&&◌, cond, List, [], ◌∷◌, eqb}
+use Rattle.std.specs.Prelude.{ℕ, ◌-◌, ◌*◌, min, Bool, ◌&&◌, List, [], ◌∷◌}
 use Rattle.std.specs.Int.Bits.{bit_and}
 use Rattle.definitions.specs.Limits.{byte_bits}
-use Rattle.definitions.specs.Accounts.{Table, row_of}
-use Rattle.definitions.specs.AccountWords.{name_at, table_of}
-use Rattle.definitions.specs.Names.{agree, same_name, word_bytes, matches}
+use Rattle.definitions.specs.AccountWords.{name_at, row_at}
+use Rattle.definitions.specs.Names.{agree, same_name, word_bytes}
 use Rattle.definitions.specs.declared.account.Name.{Name}
 use Rattle.rules.specs.Lanes.{all_lanes}
 
@@ -30,12 +29,6 @@ first_bytes n = all_lanes byte_bits (min n 8) 0xFF
 abbrev pub cut_word : ℕ → ℕ → ℕ → ℕ
 cut_word length k word = bit_and word (first_bytes (length - 8 * k))
 
--- a row of the words has a name, with letter case ignored or not
+-- a row of the words is set and has a name, with letter case ignored or not
 abbrev pub has_name : List ℕ → ℕ → Bool → List ℕ → Bool
-has_name words number ignore name =
-    (row_of (table_of words) number).account.known && same_name ignore (row_of (table_of words) number).name name
-
--- the least number, from n on, of a row other than one that matches; the number after the last row where none does
-unfoldable pub first_from : ℕ → ℕ → Table → List ℕ → ℕ
-first_from except n [] name = n
-first_from except n (row ∷ rows) name = cond (not (eqb n except) && matches row name) n (first_from except (n + 1) rows name)
+has_name words number ignore name = (row_at words number).account.known && same_name ignore (row_at words number).name name

@@ -11,16 +11,16 @@ use crate::check::{
 use crate::name::find_packed;
 use crate::routes::Hop;
 use crate::tickets::{direct_ticket, initial_ticket, s4u2proxy_ticket, s4u2self_ticket};
-use crate::windows::initial_window;
+use crate::windows::{hop_window_of, initial_window, window_of};
 use crate::words::{AccountWords, account_at};
-use definitions::{Error, Moment, Named, Presented, Principal, Span, Ticket};
+use definitions::{ACCOUNT_LIMIT, Error, Moment, Named, Presented, Principal, Span, Ticket};
 use record::name_in;
 
 // The account that a name in the request's bytes stands for, with its number.
 fn find_named(words: &AccountWords, bytes: &[u8], span: Span) -> Named
     ensures { result ≡ named (table_of words.now) (part_of bytes.now span) }
 {
-    let number = find_packed(words, name_in(bytes, span));
+    let number = find_packed(words, name_in(bytes, span)).unwrap_or(ACCOUNT_LIMIT);
     Named {
         number: number as Principal,
         account: account_at(words, number),
@@ -58,7 +58,7 @@ pub fn decide_initial(
 }
 
 // Kind 2 to the service of a name.
-#[tactic(auto, using(crate::proofs::Stages::direct_staged, crate::proofs::Until::until_initial))]
+#[tactic(auto, using(crate::proofs::Stages::direct_staged))]
 pub fn decide_direct(
     words: &AccountWords,
     bytes: &[u8],
@@ -74,16 +74,14 @@ pub fn decide_direct(
     let tgt = present(words, held, tgt);
     check_tgt(moment.clock, &tgt)?;
     let service = find_named(words, bytes, name);
-    let window = initial_window(moment.clock, service.account.lifetime, till).until(
-        tgt.ticket.window.end,
-    );
+    let window = window_of(moment, service.account, till, &tgt);
     check_service(service.account)?;
     check_last(moment, window)?;
     Ok(direct_ticket(moment.next, asked, &tgt, service.number, window))
 }
 
 // Kind 3 for the user of a name, to the TGT's client, Service 1.
-#[tactic(auto, using(crate::proofs::Stages::s4u2self_staged, crate::proofs::Until::until_initial))]
+#[tactic(auto, using(crate::proofs::Stages::s4u2self_staged))]
 pub fn decide_s4u2self(
     words: &AccountWords,
     bytes: &[u8],
@@ -99,9 +97,7 @@ pub fn decide_s4u2self(
     let tgt = present(words, held, tgt);
     check_tgt(moment.clock, &tgt)?;
     let user = find_named(words, bytes, name);
-    let window = initial_window(moment.clock, tgt.client.lifetime, till).until(
-        tgt.ticket.window.end,
-    );
+    let window = window_of(moment, tgt.client, till, &tgt);
     check_self(tgt.client)?;
     check_user(user.account)?;
     check_last(moment, window)?;
@@ -109,7 +105,7 @@ pub fn decide_s4u2self(
 }
 
 // Kind 4 to the service of a name, Service 2.
-#[tactic(auto, using(crate::proofs::Stages::s4u2proxy_staged, crate::proofs::Stages::hop_few, crate::proofs::Until::until_until))]
+#[tactic(auto, using(crate::proofs::Stages::s4u2proxy_staged, crate::proofs::Stages::hop_few))]
 pub fn decide_s4u2proxy(
     words: &AccountWords,
     bytes: &[u8],
@@ -130,9 +126,7 @@ pub fn decide_s4u2proxy(
     check_tgt(moment.clock, &tgt)?;
     check_evidence(moment.clock, &evidence, tgt.ticket.client)?;
     let service2 = find_named(words, bytes, name);
-    let window = initial_window(moment.clock, service2.account.lifetime, till)
-        .until(tgt.ticket.window.end)
-        .until(evidence.ticket.window.end);
+    let window = hop_window_of(moment, service2.account, till, &tgt, &evidence);
     check_service(service2.account)?;
     let hop = Hop {
         tgt: &tgt,

@@ -5,6 +5,7 @@ ghost use Rattle.rules.specs.LetterCase.{keep_of};
 
 // The bits of a word that count beside another word: all but 0x20 in each byte that is a letter. Under 0x5F a letter is 0x41 to 0x5A, so that the one
 // sum sets its 0x80 and the other does not; no sum leaves its byte, since 0x5F + 0x3F is below 0x100.
+#[tactic(auto, unfolding(crate::specs::LetterCase::keep_in, crate::specs::LetterCase::letters_in, crate::specs::Lanes::all_lanes))]
 fn keep(word: u64) -> u64
     ensures { result ≡ keep_of word }
 {

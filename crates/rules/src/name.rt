@@ -1,14 +1,14 @@
 // Which account a name stands for (R2.6, R2.7, R2.11). Names are compared as words.
-ghost use Rattle.std.specs.Prelude.{◌≡◌, true, ◌*◌, ◌<◌, ◌≤◌};
+ghost use Rattle.std.specs.Prelude.{◌≡◌, true, false, ◌<◌, ◌≤◌, MatchOption, IfSome, unwrap_or};
 ghost use Rattle.definitions.specs.Limits.{account_limit};
-ghost use Rattle.definitions.specs.AccountWords.{row_start, row_word, name_at, set_length, table_of};
-ghost use Rattle.definitions.specs.Names.{agree, find_name, name_taken};
-ghost use Rattle.rules.specs.NameSearch.{bytes_of, has_name, words_agree, first_bytes, cut_word, first_from};
+ghost use Rattle.definitions.specs.AccountWords.{row_start, row_word, row_at, name_at, set_length, table_of};
+ghost use Rattle.definitions.specs.Names.{agree, matches, find_name, name_taken};
+ghost use Rattle.rules.specs.NameSearch.{bytes_of, words_agree, first_bytes, cut_word};
 
 use crate::letters::words_match;
-use crate::words::{AccountWords, length_at, row_word};
+use crate::words::{AccountWords, Row};
 use definitions::{ACCOUNT_LIMIT, Name};
-use record::{both, pack_name, set_length};
+use record::{pack_name, set_length};
 
 // Whether the bytes of two words agree, with letter case ignored or not.
 fn words_agree(ignore: bool, a: u64, b: u64) -> bool
@@ -28,92 +28,76 @@ fn first_bytes(count: usize) -> u64
     0xFFFFFFFFFFFFFFFF >> (64 - 8 * count)
 }
 
-// Whether a word of a row agrees with that of a name of a length, as far as the name goes; some of its bytes lie in that word.
-fn same_part(
-    words: &AccountWords,
-    n: usize,
-    k: usize,
-    ignore: bool,
-    word: u64,
-    length: usize,
-) -> bool
-    requires { (n < account_limit) × (k < 3) × (8 * k < length) }
-    ensures { result ≡ words_agree ignore (cut_word length k (row_word words.now n k)) (cut_word length k word) }
-{
-    let mask = first_bytes(length - 8 * k);
-    words_agree(ignore, row_word(words, n, k) & mask, word & mask)
+// A name of a length that names have.
+#[derive(Clone, Copy)]
+pub(crate) struct SetName {
+    pub(crate) name: Name,
+    ghost set: { set_length name.length ≡ true },
 }
 
-// The same of a name that may end before the word.
-fn same_word(
-    words: &AccountWords,
-    n: usize,
-    k: usize,
-    ignore: bool,
-    word: u64,
-    length: usize,
-) -> bool
-    requires { (n < account_limit) × (k < 3) }
-    ensures { result ≡ words_agree ignore (cut_word length k (row_word words.now n k)) (cut_word length k word) }
-{
-    if length <= 8 * k {
-        return true;
-    }
-    same_part(words, n, k, ignore, word, length)
-}
-
-// Whether a row whose length is that of a name has its bytes, with letter case ignored or not. The last word comes first: names of one length mostly
-// differ at their end.
-pub(crate) fn same_name(words: &AccountWords, n: usize, ignore: bool, name: Name) -> bool
-    requires { (n < account_limit) × (set_length name.length ≡ true) }
-    ensures { result ≡ agree ignore (name_at words.now (row_start n) name.length) (bytes_of name) name.length }
-{
-    let length = name.length;
-    if !same_word(words, n, 2, ignore, name.third, length) {
-        return false;
-    }
-    if !same_word(words, n, 1, ignore, name.second, length) {
-        return false;
-    }
-    same_part(words, n, 0, ignore, name.first, length)
-}
-
-// Whether a row is set and matches a name. Of most rows only the length is looked at, which is a byte and is compared as one.
-fn matches_name(words: &AccountWords, n: usize, name: Name) -> bool
-    requires { (n < account_limit) × (set_length name.length ≡ true) }
-    ensures { result ≡ has_name words.now n true (bytes_of name) }
-{
-    if length_at(words, n) != name.length as u8 {
-        return false;
-    }
-    same_name(words, n, true, name)
-}
-
-// The lowest account other than a given one that is set and matches a name; one past the last where none does.
-fn first_match(words: &AccountWords, name: Name, except: usize) -> usize
-    requires { set_length name.length ≡ true }
-    ensures exact { result ≡ first_from except 0 (table_of words.now) (bytes_of name) }
-    ensures bounded { result ≤ account_limit }
-{
-    let mut i = 0;
-    while i < ACCOUNT_LIMIT {
-        if both(i != except, matches_name(words, i, name)) {
-            return i;
+impl SetName {
+    // The name, where its length is that of one.
+    fn of(name: Name) -> Option<SetName>
+        ensures { MatchOption result (set_length name.length ≡ false) (λ it. it.name ≡ name) }
+    {
+        if set_length(name.length) {
+            Some(SetName { name })
+        } else {
+            None
         }
-        i += 1;
     }
-    ACCOUNT_LIMIT
 }
 
-// The lowest account that is set and matches a name in words; one past the last where none does. A length that no name has is found nowhere.
-pub(crate) fn find_packed(words: &AccountWords, name: Name) -> usize
-    ensures exact { result ≡ find_name (table_of words.now) (bytes_of name) }
-    ensures bounded { result ≤ account_limit }
-{
-    if !set_length(name.length) {
-        return ACCOUNT_LIMIT;
+impl Row<'_> {
+    // Whether a word of the row agrees with that of a name of a length, as far as the name goes, which may end before that word.
+    fn same_word(self, k: usize, ignore: bool, word: u64, length: usize) -> bool
+        requires { k < 3 }
+        ensures { result ≡ words_agree ignore (cut_word length k (row_word self.entry.words.now self.entry.number k)) (cut_word length k word) }
+    {
+        if length <= 8 * k {
+            return true;
+        }
+        let mask = first_bytes(length - 8 * k);
+        words_agree(ignore, self.word(k) & mask, word & mask)
     }
-    first_match(words, name, ACCOUNT_LIMIT)
+
+    // Whether the row, whose length is that of a name, has its bytes, with letter case ignored or not. The last word comes first: names of one length
+    // mostly differ at their end.
+    pub(crate) fn same_name(self, ignore: bool, name: SetName) -> bool
+        ensures { result ≡ agree ignore (name_at self.entry.words.now (row_start self.entry.number) name.name.length) (bytes_of name.name) name.name.length }
+    {
+        let name = name.name;
+        self.same_word(2, ignore, name.third, name.length)
+            && self.same_word(1, ignore, name.second, name.length)
+            && self.same_word(0, ignore, name.first, name.length)
+    }
+
+    // Whether the row is set and matches a name. Of most rows only the length is looked at, which is a byte and is compared as one.
+    fn matches(self, name: SetName) -> bool
+        ensures { result ≡ matches (row_at self.entry.words.now self.entry.number) (bytes_of name.name) }
+    {
+        self.length() == name.name.length as u8 && self.same_name(true, name)
+    }
+}
+
+// The lowest account that is set and matches a name.
+fn first_match(words: &AccountWords, name: SetName) -> Option<usize>
+    ensures exact { unwrap_or result account_limit ≡ find_name (table_of words.now) (bytes_of name.name) }
+    ensures bounded { IfSome result (λ number. number < account_limit) }
+{
+    (0..ACCOUNT_LIMIT).find(
+        |&number|
+            requires { number < account_limit }
+        { Row { words, number }.matches(name) },
+    )
+}
+
+// The lowest account that is set and matches a name in words. A length that no name has is found nowhere.
+pub(crate) fn find_packed(words: &AccountWords, name: Name) -> Option<usize>
+    ensures exact { unwrap_or result account_limit ≡ find_name (table_of words.now) (bytes_of name) }
+    ensures bounded { IfSome result (λ number. number < account_limit) }
+{
+    first_match(words, SetName::of(name)?)
 }
 
 // The account that a name stands for, one past the last where it is unknown.
@@ -121,13 +105,23 @@ pub fn find_name(words: &AccountWords, bytes: &[u8]) -> usize
     ensures exact { result ≡ find_name (table_of words.now) bytes.now }
     ensures bounded { result ≤ account_limit }
 {
-    find_packed(words, pack_name(bytes))
+    // One past the last, as R2.7 and the callers have it.
+    find_packed(words, pack_name(bytes)).unwrap_or(ACCOUNT_LIMIT)
 }
 
 // Whether another account than a given one is set and matches a name.
-pub(crate) fn name_taken(words: &AccountWords, number: usize, name: Name) -> bool
-    requires { set_length name.length ≡ true }
-    ensures { result ≡ name_taken number 0 (table_of words.now) (bytes_of name) }
+pub(crate) fn name_taken(words: &AccountWords, number: usize, name: SetName) -> bool
+    ensures { result ≡ name_taken number 0 (table_of words.now) (bytes_of name.name) }
 {
-    first_match(words, name, number) < ACCOUNT_LIMIT
+    (0..ACCOUNT_LIMIT).any(
+        |other|
+            requires { other < account_limit }
+        {
+            let row = Row {
+                words,
+                number: other,
+            };
+            other != number && row.matches(name)
+        },
+    )
 }
