@@ -1,25 +1,23 @@
 -- Laws of the cursor: what is found at it, and what is put there.
 -- Assumes nothing.
-use Rattle.std.specs.Prelude.{is_some, Option, None, Result, Ok, Err}
 use mathlib.Core.Path.{◌≡◌, refl, sym, ap, ◌∙◌}
-use mathlib.Core.Bool.{Bool, true, false, ◌&&◌, cond, false≢true}
-use mathlib.Core.List.{List, [], ◌∷◌, ◌++◌, append_assoc}
+use mathlib.Core.Bool.{Bool, true, false, ◌&&◌, cond}
+use mathlib.Core.List.{List, [], ◌∷◌, ◌++◌}
 use Prim.Native.Nat.{ℕ, zero, suc, ◌+◌, ◌-◌, ◌*◌, ◌/◌, ◌%◌, ◌^◌, ◌≤◌, ◌<◌}
 use native.Mathlib.Nat.{add-zero, add_assoc, zero-add, mul-le-mul, one-le-pow, zero-lt-suc}
 use native.Mathlib.Omega.{arith}
 use lib.ListN.{length, get_or, take, drop, drop_of_length-le, length-append, set, get_or-eq_default}
 use lib.Seq.{take-suc, sets, sets-eq, length-take-le}
-use lib.Dec.{leb, eqb, lit<}
-use borrow.Author.Tests.{le-leb, leb-true}
-use Rattle.definitions.specs.declared.request.Kind.{Kind}
-use Rattle.definitions.specs.declared.error.Error.{Error}
+use lib.Dec.{leb, eqb}
+use borrow.Author.Tests.{le-leb, leb-true, eq-eqb, ne_eqb}
 use Rattle.definitions.specs.Limits.{longest_record, byte_bits}
-use Rattle.definitions.specs.Fields.{Bytes, has_bit, number_at, big_endian, Layout, row, field_at, offset_of, field_of, Value, plain, value_at, field_bytes, bytes_to}
+use Rattle.definitions.specs.Fields.{Bytes, has_bit, number_at, big_endian, Layout, row, field_at, past_field, run, offset_of, end_of, field_of, Value, plain, value_at, field_bytes, bytes_to}
 use Rattle.definitions.specs.declared.field.Field.{Field}
-use Rattle.record.specs.Cursor.{cursor_most, Numbered, Taken, map_or_none, map_if_writable, size_to, Wrote}
-use Rattle.definitions.proofs.Bools.{and_left, and_right}
+use Rattle.record.specs.Cursor.{all_small, cursor_most, field_size, Numbered, Taken, map_with, parts_fit, writable_map, Wrote}
+use Rattle.definitions.proofs.Bools.{and_left, and_right, and_no, left-no}
 use Rattle.definitions.proofs.Fields.{number-one, offset-mono, offset-next, past-there, past-absent, number-missing, length-big_endian, length_more}
-use Rattle.definitions.specs.TicketRecords.{ticket_layout, all_zero, well_formed, map_of_ticket, record_as, record_of}
+use Rattle.definitions.proofs.TicketRecords.{readable-few, readable-length}
+use Rattle.definitions.specs.TicketRecords.{ticket_layout, known_map, hops_of, hops_fit, readable_as, trail_of, all_zero, well_formed, map_of_ticket, record_as, record_of}
 use Rattle.definitions.specs.Output.{written_of, output_of}
 use Rattle.definitions.specs.RequestWriting.{written_to, output_to}
 use Rattle.definitions.specs.declared.ticket.Ticket.{Ticket}
@@ -29,9 +27,11 @@ use Rattle.definitions.specs.Words.{pack_at}
 use Rattle.definitions.proofs.Words.{pack-shift, pack-zero}
 use Rattle.definitions.proofs.Lists.{sets-append, sets_last}
 use lib.Bits.{bit_or, or_add_and, and_le_l}
-use Rattle.definitions.specs.Requests.{request_layout, needed_bits, map_fits, kind_path, path_of}
-use Rattle.definitions.specs.RequestWriting.{RequestParts, map_of_parts, counted, part_values, numbers_fit, record_fits, writable, request_of, request_written, request_output}
-use Rattle.definitions.proofs.Requests.{allowed-small, fits-least, path-above, path-other}
+use Rattle.definitions.specs.Requests.{request_layout, needed_bits, path_of}
+use Rattle.record.specs.Drafts.{size_of}
+use Rattle.definitions.specs.RequestWriting.{RequestParts, map_of_parts, part_values, writable, request_of, request_written, request_output}
+use Rattle.std.specs.Prelude.{Option, Some, None, is_some, Result, Ok, Err}
+use Rattle.definitions.proofs.Requests.{allowed-small, path-above, path-other}
 
 -- ---- Taking
 -- a number with a byte missing is taken as 0
@@ -63,8 +63,7 @@ units-few u x h =
 module _ (L : Layout) (s : List ℕ) (m k i : ℕ) (f : Field) (l : k < length L) (ef : field_at L k ≡ f)
     (ei : i ≡ offset_of L s m k) (li : i ≤ cursor_most k) where
   -- a field that stands, and one that does not
-  pub taken-there : (x : ℕ) → f.head ≤ 4 → f.unit ≤ 4 → has_bit m k ≡ true → Numbered s i f.head x
-      → Taken L s m k (record { value = x; next = i + f.head + f.unit * (x % 256) })
+  pub taken-there : (x : ℕ) → f.head ≤ 4 → f.unit ≤ 4 → has_bit m k ≡ true → Numbered s i f.head x → Taken L s m k x (i + f.head + f.unit * (x % 256))
   unfolding field_of
   taken-there x hh hu h n =
       let next : offset_of L s m (k + 1) ≡ i + f.head + f.unit * (x % 256) = offset-next L s m k ∙ rw (sym ei) (past-there L s m k i h ∙ rw (ef, n.counts)) in
@@ -76,7 +75,7 @@ module _ (L : Layout) (s : List ℕ) (m k i : ℕ) (f : Field) (l : k < length L
         bounded = omega (arith, units-few f.unit x hu);
       }
 
-  pub taken-absent : has_bit m k ≡ false → Taken L s m k (record { value = 0; next = i })
+  pub taken-absent : has_bit m k ≡ false → Taken L s m k 0 i
   unfolding field_of
   taken-absent h =
       record {
@@ -87,17 +86,68 @@ module _ (L : Layout) (s : List ℕ) (m k i : ℕ) (f : Field) (l : k < length L
         bounded = omega arith;
       }
 
--- the rows of a layout have few bytes
-abbrev pub all_small : Layout → Bool
-all_small [] = true
-all_small (f ∷ L) = (leb f.head 4 && leb f.unit 4) && all_small L
-
+-- so have the rows of a layout
 pub small_at : (L : Layout) → all_small L ≡ true → (k : ℕ) → ((field_at L k).head ≤ 4) × ((field_at L k).unit ≤ 4)
 small_at [] h k = (omega arith, omega arith)
 small_at (f ∷ L) h zero =
     let a = and_left (leb f.head 4 && leb f.unit 4) (all_small L) h in
     (leb-true f.head 4 (and_left (leb f.head 4) (leb f.unit 4) a), leb-true f.unit 4 (and_right (leb f.head 4) (leb f.unit 4) a))
 small_at (f ∷ L) h (suc k) = small_at L (and_right (leb f.head 4 && leb f.unit 4) (all_small L) h) k
+
+-- ---- The trail of a record
+-- a mark has no bytes
+past-mark : (s : List ℕ) (m k i : ℕ) → field_at ticket_layout k ≡ row 0 0 → past_field ticket_layout s m k i ≡ i
+unfolding past_field
+past-mark s m k i e = rw e (by (has_bit m k) (number_at s i 0))
+  where
+    by : (p : Bool) (n : ℕ) → i + cond p (0 + 0 * (n % 256)) 0 ≡ i
+    by true n = omega arith
+    by false n = omega arith
+
+-- a record ends where its trail does
+trail-end : (s : List ℕ) (m : ℕ) → end_of ticket_layout s m ≡ offset_of ticket_layout s m 9
+trail-end s m =
+    offset-next ticket_layout s m 10 ∙ past-mark s m 10 _ refl ∙ offset-next ticket_layout s m 9 ∙ past-mark s m 9 _ refl
+
+trail-place : (p : Bool) (x a n : ℕ) → n ≡ a + cond p (1 + 1 * (x % 256)) 0 → cond p x 0 ≤ 8
+    → (0 < cond p x 0 → n - cond p x 0 ≡ a + 1) × (cond p x 0 ≤ n)
+trail-place true x a n e f = (λ l. omega arith, omega arith)
+trail-place false x a n e f = (λ l. absurd (omega arith), omega arith)
+
+-- an empty trail is the same anywhere
+trail-same : (s : List ℕ) (i j n : ℕ) → (0 < n → i ≡ j) → trail_of s i n ≡ trail_of s j n
+unfolding trail_of run
+trail-same s i j zero e = refl
+trail-same s i j (suc n) e = ap (λ (k : ℕ). trail_of s k (suc n)) (e (zero-lt-suc n))
+
+module _ (s : List ℕ) (m : ℕ) (r : readable_as s m ≡ true) where
+  place : (0 < hops_of s m → length s - hops_of s m ≡ offset_of ticket_layout s m 8 + 1) × (hops_of s m ≤ length s)
+  unfolding field_of offset_of past_field
+  place =
+      trail-place (has_bit m 8) (number_at s (offset_of ticket_layout s m 8) 1) (offset_of ticket_layout s m 8) (length s)
+      (readable-length s m r ∙ trail-end s m) (readable-few s m r)
+
+  pub trail_within : hops_of s m ≤ length s
+  trail_within = place.1
+
+  -- the accounts of the trail are the last bytes
+  pub trail_last : trail_of s (length s - hops_of s m) (hops_of s m) ≡ trail_of s (offset_of ticket_layout s m 8 + 1) (hops_of s m)
+  trail_last = trail-same s _ _ (hops_of s m) place.0
+
+-- what the code tests of a record with a map of the eight makes it readable
+module _ (s : List ℕ) (m h n : ℕ) (k : known_map m ≡ true) (e : h ≡ hops_of s m) (f : n ≡ end_of ticket_layout s m) where
+  readable_by : (hops_fit m h && eqb (length s) n) ≡ readable_as s m
+  unfolding readable_as
+  readable_by = rw (k, e, f)
+
+  pub readable_if : hops_fit m h ≡ true → length s ≡ n → readable_as s m ≡ true
+  readable_if p q = sym readable_by ∙ rw (p, eq-eqb (length s) n q)
+
+  pub trail-unfit : hops_fit m h ≡ false → readable_as s m ≡ false
+  trail-unfit p = sym readable_by ∙ left-no _ _ p
+
+  pub length-unfit : (length s ≡ n → ⊥) → readable_as s m ≡ false
+  length-unfit p = sym readable_by ∙ and_no _ _ (ne_eqb (length s) n p)
 
 -- ---- Putting
 -- a big-endian number is stored from its last byte on
@@ -130,6 +180,14 @@ field-there L m k v h p = rw h p
 pub field-absent : (L : Layout) (m k : ℕ) (v : Value) {o : List ℕ} {i : ℕ} → has_bit m k ≡ false → Wrote o i (field_bytes L m k v) o i
 unfolding field_bytes
 field-absent L m k v h = rw h wrote_nothing
+
+-- at most its head and what is behind it
+pub size-most : (L : Layout) (m k n : ℕ) → field_size L m k n ≤ (field_at L k).head + n
+size-most L m k n = by (has_bit m k) ((field_at L k).head + n)
+  where
+    by : (p : Bool) (x : ℕ) → cond p x 0 ≤ x
+    by true x = omega arith
+    by false x = omega arith
 
 -- a mark has no bytes
 pub wrote-mark : (vs : List Value) (m k : ℕ) {o o₁ : List ℕ} {i r : ℕ} → field_at ticket_layout k ≡ row 0 0 → value_at vs k ≡ plain 0
@@ -167,90 +225,48 @@ pub behind-none : (s : List ℕ) (h : ℕ) → length s ≤ h → true ≡ all_z
 unfolding all_zero
 behind-none s h l = rw (drop_of_length-le s {i = h} l)
 
+-- ---- What the code finds in one case only
+pub some_told : {A : Type 0} (b : Bool) (x y : A) → Some x ≡ cond b (Some y) None → (b ≡ true) × (x ≡ y)
+some_told true x y e = (refl, cc)
+some_told false x y e = cc
+
+pub none_told : {A : Type 0} (b : Bool) (y : A) → ◌≡◌ {A = Option A} None (cond b (Some y) None) → b ≡ false
+none_told true y e = cc
+none_told false y e = refl
+
 -- ---- The map of a request that is written
-pub map-decided : (k f m : ℕ) (p : Option Kind) → m ≡ bit_or (needed_bits k) f → p ≡ path_of k m → is_some p ≡ true → m ≡ map_or_none k f
-unfolding map_or_none
-map-decided k f m p e d h = rw (sym e, sym d, h)
-
-pub map-none : (k f m : ℕ) → m ≡ bit_or (needed_bits k) f → None ≡ path_of k m → 0 ≡ map_or_none k f
-unfolding map_or_none
-map-none k f m e d = rw (sym e, sym d)
-
 -- a number that is no kind
-pub map_other : (k f : ℕ) → 4 < k → 0 ≡ map_or_none k f
+pub map_other : (k f : ℕ) → 4 < k → None ≡ map_with k f
+unfolding map_with
 map_other k f l =
-    map-none k f _ refl
-    (path-other k _ (λ e. absurd (omega arith)) (λ e. absurd (omega arith)) (λ e. absurd (omega arith)) (λ e. absurd (omega arith)))
+    let e : None ≡ path_of k (bit_or (needed_bits k) f) =
+    path-other k _ (λ e. absurd (omega arith)) (λ e. absurd (omega arith)) (λ e. absurd (omega arith)) (λ e. absurd (omega arith)) in
+    rw (sym e)
 
 -- a mask with bits above those of the fields
-pub map-above : (k f : ℕ) → 255 < f → 0 ≡ map_or_none k f
+pub map-above : (k f : ℕ) → 255 < f → None ≡ map_with k f
+unfolding map_with
 map-above k f l =
-    map-none k f _ refl
-    (path-above k k _ refl (omega (arith, allowed-small k, or_add_and (needed_bits k) f, and_le_l (needed_bits k) f)))
-
--- a map of a kind is not 0
-needed-some : (k : ℕ) → is_some (kind_path k) ≡ true → 0 < needed_bits k
-needed-some zero h = absurd (false≢true h)
-needed-some (suc zero) h = lit< tt
-needed-some (suc (suc zero)) h = lit< tt
-needed-some (suc (suc (suc zero))) h = lit< tt
-needed-some (suc (suc (suc (suc zero)))) h = lit< tt
-needed-some (suc (suc (suc (suc (suc k))))) h = absurd (false≢true h)
+    let e : None ≡ path_of k (bit_or (needed_bits k) f) =
+    path-above k k _ refl (omega (arith, allowed-small k, or_add_and (needed_bits k) f, and_le_l (needed_bits k) f)) in
+    rw (sym e)
 
 -- the map that the code finds is that of writable parts
-pub map-writable : (p : RequestParts) (m : ℕ) (t : Bool) → m ≡ map_or_none p.kind p.fields
-    → t ≡ (numbers_fit request_layout m (part_values p) (length request_layout) && (record_fits m 4 p.tgt && record_fits m 5 p.evidence))
-    → cond t m 0 ≡ map_if_writable p
-unfolding map_or_none writable
-map-writable p m t e f = by (is_some (path_of p.kind (map_of_parts p))) refl e
-  where
-    none : (t : Bool) → ◌≡◌ {A = ℕ} (cond t 0 0) 0
-    none true = refl
-    none false = refl
+pub map-writable : (p : RequestParts) (m : ℕ) → Some m ≡ map_with p.kind p.fields → (fit : Bool) → fit ≡ parts_fit m p
+    → cond fit (Some m) None ≡ writable_map p
+unfolding map_with writable
+map-writable p m e fit f =
+    let found = some_told _ _ _ e in
+    rw (f, found.0, found.1)
 
-    by : (q : Bool) → is_some (path_of p.kind (map_of_parts p)) ≡ q → m ≡ cond q (map_of_parts p) 0 → cond t m 0 ≡ map_if_writable p
-    by true d g = rw (d, f, g)
-    by false d g = rw (d, g) (none t)
-
--- what a map tells that was found, and what none tells
-pub record Found (parts : RequestParts) (map : ℕ) : Type 0 where
-  pub good : writable parts ≡ true
-  pub is-map : map ≡ map_of_parts parts
-
-pub map_found : (p : RequestParts) (m : ℕ) → m ≡ map_if_writable p → (m ≡ 0 → ⊥) → Found p m
-map_found p m e n = by (writable p) refl e
-  where
-    by : (q : Bool) → writable p ≡ q → m ≡ cond q (map_of_parts p) 0 → Found p m
-    by true w g = record { good = w; is-map = g }
-    by false w g = absurd (n g)
-
-pub none_found : (p : RequestParts) (m : ℕ) → m ≡ map_if_writable p → m ≡ 0 → writable p ≡ false
-unfolding writable path_of
-none_found p m e z = by (map_fits p.kind (map_of_parts p)) refl (is_some (kind_path p.kind)) refl
-  where
-    rest : Bool
-    rest =
-        numbers_fit request_layout (map_of_parts p) (part_values p) (length request_layout)
-        && (record_fits (map_of_parts p) 4 p.tgt && record_fits (map_of_parts p) 5 p.evidence)
-
-    least : map_fits p.kind (map_of_parts p) ≡ true → is_some (kind_path p.kind) ≡ true → 0 < map_of_parts p
-    least h d = omega (arith, needed-some p.kind d, fits-least p.kind (map_of_parts p) h)
-
-    zeroed : (r : Bool) → 0 < map_of_parts p → cond r (map_of_parts p) 0 ≡ 0 → r ≡ false
-    zeroed true l g = absurd (omega arith)
-    zeroed false l g = refl
-
-    by : (q : Bool) → map_fits p.kind (map_of_parts p) ≡ q → (d : Bool) → is_some (kind_path p.kind) ≡ d
-        → (is_some (cond (map_fits p.kind (map_of_parts p)) (kind_path p.kind) None) && rest) ≡ false
-    by false h d g = rw h
-    by true h false g = rw (h, g)
-    by true h true g = zeroed _ (least h g) (sym e ∙ z)
+pub map-unwritable : (p : RequestParts) → ◌≡◌ {A = Option ℕ} None (map_with p.kind p.fields) → ◌≡◌ {A = Option ℕ} None (writable_map p)
+unfolding map_with writable
+map-unwritable p e = rw (none_told _ _ e)
 
 -- as many bytes as the request has
-pub size_of : (p : RequestParts) (m : ℕ) → m ≡ map_of_parts p
-    → size_to m (0 ∷ 0 ∷ 0 ∷ 0 ∷ length p.tgt ∷ length p.evidence ∷ length p.user ∷ length p.service ∷ []) 8 ≡ length (request_of p)
+pub request-length : (p : RequestParts) (m : ℕ) → m ≡ map_of_parts p → size_of m p ≡ length (request_of p)
 unfolding bytes_to request_of
-size_of p m e = rw e (sym (more 7 ∙ rw (more 6, more 5, more 4, more 3, more 2, more 1, more 0, length-big_endian 2 (map_of_parts p))))
+request-length p m e = rw e (sym (more 7 ∙ rw (more 6, more 5, more 4, more 3, more 2, more 1, more 0, length-big_endian 2 (map_of_parts p))))
   where
     more : (k : ℕ)
         → length (bytes_to request_layout (map_of_parts p) (part_values p) (suc k))
@@ -272,13 +288,3 @@ module _ (p : RequestParts) (o : List ℕ) where
       → Wrote o 0 (bytes_to request_layout m (part_values p) 8) o₁ r → (Ok r ≡ request_written p (length o)) × (o₁ ≡ request_output p o)
   unfolding request_written request_output request_of
   request-wrote o₁ m r h e l w = wrote-all (writable p) (length (request_of p)) (request_of p) o o₁ r h l (omega arith) (rw e at w)
-
--- the numbers, and behind them the records and the names
-pub wrote-request : (p : RequestParts) (m : ℕ) {o o₁ o₂ : List ℕ} {a r : ℕ}
-    → Wrote o 0 (bytes_to request_layout m (plain p.kind ∷ plain p.options ∷ plain p.pac_options ∷ plain p.till ∷ []) 4) o₁ a
-    → Wrote o₁ a (field_bytes request_layout m 4 (counted p.tgt) ++ field_bytes request_layout m 5 (counted p.evidence) ++ field_bytes request_layout m 6 (counted p.user) ++ field_bytes request_layout m 7 (counted p.service)) o₂ r
-    → Wrote o 0 (bytes_to request_layout m (part_values p) 8) o₂ r
-unfolding bytes_to
-wrote-request p m u v =
-    let w = wrote_then u v in
-    simp append_assoc (simp append_assoc at w)

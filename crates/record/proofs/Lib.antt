@@ -1,2 +1,3 @@
 -- Laws of the code of layer 1.
+pub mod Copied
 pub mod Cursor

@@ -13,13 +13,9 @@ fn pack_some(bytes: &[u8], from: usize, count: usize) -> u64
     ensures exact { result ≡ pack_at byte_bits bytes.now from count }
     ensures bounded { result < 256 ^ count }
 {
-    let mut word: u64 = 0;
-    let mut i = count;
-    while 0 < i {
-        i -= 1;
-        word = word * 256 + bytes[from + i] as u64;
-    }
-    word
+    let mut word = [0u8; 8];
+    word[..count].copy_from_slice(&bytes[from..from + count]);
+    u64::from_le_bytes(word)
 }
 
 // Eight bytes from a position on as a word, the first lowest; by halves, each of which is one load when it is compiled.
@@ -31,7 +27,7 @@ pub(crate) fn pack_whole(bytes: &[u8], from: usize) -> u64
 }
 
 // The same, where bytes past the end count as 0. Of eight bytes that end with the last one those before the position are shifted out.
-fn pack(bytes: &[u8], from: usize) -> u64
+pub(crate) fn pack(bytes: &[u8], from: usize) -> u64
     ensures { result ≡ pack_at byte_bits bytes.now from 8 }
 {
     let end = bytes.len();

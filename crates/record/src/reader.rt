@@ -1,19 +1,18 @@
 // The ticket reader: any bytes to a ticket, or 60 (R3.5).
-ghost use Rattle.std.specs.Prelude.{◌≡◌, true, ℕ, ◌+◌, ◌≤◌, ◌<◌, length};
+ghost use Rattle.std.specs.Prelude.{◌≡◌, ◌-◌, ◌≤◌, length};
 ghost use Rattle.definitions.specs.Limits.{trail_limit};
-ghost use Rattle.definitions.specs.Fields.{field_at, offset_of};
-ghost use Rattle.record.specs.Cursor.{cursor_most, Taken, Walked};
-ghost use Rattle.definitions.specs.TicketRecords.{ticket_layout, known_map, hops_fit, origin_as, trail_of, read_ticket};
+ghost use Rattle.definitions.specs.TicketRecords.{known_map, hops_fit, origin_as, trail_of, read_ticket};
 
-use crate::found::{Found, Walk};
-use crate::{both, map_of, present, take_field};
+use crate::form::Form;
+use crate::packing::pack;
+use crate::{map_of, present};
 use definitions::{Error, Field, Origin, Principal, TRAIL_LIMIT, Ticket, Window};
 
 // How many fields a ticket's record has.
 const FIELDS: usize = 11;
 
 // Its fields, by map bit (R3.2).
-const LAYOUT: [Field; FIELDS] = [
+pub(crate) const LAYOUT: [Field; FIELDS] = [
     Field { head: 2, unit: 0 }, // number
     Field { head: 4, unit: 0 }, // flags
     Field { head: 1, unit: 0 }, // client
@@ -38,33 +37,19 @@ fn known_map(map: u16) -> bool
 }
 
 // Whether a trail has 1 to 8 accounts where the map has one, and else none.
+#[tactic(auto, unfolding(definitions::specs::TicketRecords::hops_fit))]
 pub(crate) fn hops_fit(map: u16, hops: u8) -> bool
     ensures { result ≡ hops_fit map hops }
 {
     if present(map, 8) {
-        both(1 <= hops, hops as usize <= TRAIL_LIMIT)
+        1 <= hops && hops as usize <= TRAIL_LIMIT
     } else {
         hops == 0
     }
 }
 
-// What the field of a map bit is made of.
-pub(crate) fn ticket_row(bit: usize) -> Field
-    requires { bit < length ticket_layout }
-    ensures { result ≡ field_at ticket_layout bit }
-{
-    LAYOUT[bit]
-}
-
-// The field of a map bit at the cursor.
-fn ticket_field(bytes: &[u8], map: u16, bit: usize, at: usize) -> Found
-    requires { (bit < length ticket_layout) × (at ≡ offset_of ticket_layout bytes.now map bit) × (at ≤ cursor_most bit) }
-    ensures { Taken ticket_layout bytes.now map bit result }
-{
-    take_field(bytes, map, bit, ticket_row(bit), at)
-}
-
 // The origin that a map stands for, with the back numbers of the record.
+#[tactic(auto, unfolding(definitions::specs::TicketRecords::origin_as))]
 fn origin_as(map: u16, tgt: u16, evidence: u16) -> Origin
     ensures { result ≡ origin_as map tgt evidence }
 {
@@ -79,52 +64,15 @@ fn origin_as(map: u16, tgt: u16, evidence: u16) -> Origin
     }
 }
 
-// The trail as a ticket holds it: its accounts, then zeros.
-fn trail_of(bytes: &[u8], at: usize, hops: u8) -> [Principal; TRAIL_LIMIT]
-    requires { (hops ≤ trail_limit) × ((i : ℕ) → i < hops → at + i < length bytes.now) }
-    ensures { result ≡ trail_of bytes.now at hops }
+// The trail as a ticket holds it: its accounts, which are the last bytes of the record, then zeros.
+fn trail_of(bytes: &[u8], hops: u8) -> [Principal; TRAIL_LIMIT]
+    requires { (hops ≤ trail_limit) × (hops ≤ length bytes.now) }
+    ensures { result ≡ trail_of bytes.now (length bytes.now - hops) hops }
 {
-    let n = hops as usize;
-    let mut trail = [0u8; TRAIL_LIMIT];
-    for i in 0..n {
-        trail[i] = bytes[at + i];
-    }
-    trail
+    pack(bytes, bytes.len() - hops as usize).to_le_bytes()
 }
 
-// The fields of a record, front to back, each taken once, with the marks, which have no bytes.
-fn walk(bytes: &[u8], map: u16) -> Walk
-    ensures { Walked bytes.now map result }
-{
-    let number = ticket_field(bytes, map, 0, 2);
-    let flags = ticket_field(bytes, map, 1, number.next);
-    let client = ticket_field(bytes, map, 2, flags.next);
-    let service = ticket_field(bytes, map, 3, client.next);
-    let start = ticket_field(bytes, map, 4, service.next);
-    let end = ticket_field(bytes, map, 5, start.next);
-    let tgt = ticket_field(bytes, map, 6, end.next);
-    let evidence = ticket_field(bytes, map, 7, tgt.next);
-    let accounts = ticket_field(bytes, map, 8, evidence.next);
-    let barred = ticket_field(bytes, map, 9, accounts.next);
-    let self_mark = ticket_field(bytes, map, 10, barred.next);
-    let hops = accounts.value as u8;
-    let fits = both(hops_fit(map, hops), bytes.len() == self_mark.next);
-    Walk {
-        number: number.value as u16,
-        flags: flags.value,
-        client: client.value as u8,
-        service: service.value as u8,
-        start: start.value,
-        end: end.value,
-        tgt: tgt.value as u16,
-        evidence: evidence.value as u16,
-        hops,
-        trail: evidence.next + 1,
-        fits,
-    }
-}
-
-// The ticket of a record, or 60.
+// The ticket of a record, or 60: its fields, front to back, each taken once, with the marks, which have no bytes.
 pub fn read_ticket(bytes: &[u8]) -> Result<Ticket, Error>
     ensures { result ≡ read_ticket bytes.now }
 {
@@ -132,23 +80,34 @@ pub fn read_ticket(bytes: &[u8]) -> Result<Ticket, Error>
     if !known_map(map) {
         return Err(Error::KRB_ERR_GENERIC);
     }
-    let found = walk(bytes, map);
-    if !found.fits {
+    let form = Form {
+        layout: &LAYOUT,
+        map,
+    };
+    let mut at = 2;
+    let number = form.take(bytes, 0, &mut at);
+    let flags = form.take(bytes, 1, &mut at);
+    let client = form.take(bytes, 2, &mut at);
+    let service = form.take(bytes, 3, &mut at);
+    let start = form.take(bytes, 4, &mut at);
+    let end = form.take(bytes, 5, &mut at);
+    let tgt = form.take(bytes, 6, &mut at);
+    let evidence = form.take(bytes, 7, &mut at);
+    let hops = form.take(bytes, 8, &mut at) as u8;
+    form.take(bytes, 9, &mut at);
+    form.take(bytes, 10, &mut at);
+    if !hops_fit(map, hops) || bytes.len() != at {
         return Err(Error::KRB_ERR_GENERIC);
     }
-    let trail = trail_of(bytes, found.trail, found.hops);
     Ok(Ticket {
-        number: found.number,
-        flags: found.flags,
-        client: found.client,
-        service: found.service,
-        window: Window {
-            start: found.start,
-            end: found.end,
-        },
-        origin: origin_as(map, found.tgt, found.evidence),
-        trail,
-        hops: found.hops,
+        number: number as u16,
+        flags,
+        client: client as u8,
+        service: service as u8,
+        window: Window { start, end },
+        origin: origin_as(map, tgt as u16, evidence as u16),
+        trail: trail_of(bytes, hops),
+        hops,
         barred: present(map, 9),
     })
 }

@@ -1,13 +1,13 @@
 // The request reader: any bytes to a request, or 60 (R4.3).
-ghost use Rattle.std.specs.Prelude.{◌≡◌, ◌+◌, ◌≤◌, ◌<◌, length};
-ghost use Rattle.definitions.specs.Fields.{map_of, field_at, offset_of, field_of};
-ghost use Rattle.record.specs.Cursor.{cursor_most, Taken, Counted, Parted};
+ghost use Rattle.std.specs.Prelude.{◌≡◌, ◌==◌, if◌then◌else◌, ◌+◌, ◌≤◌, ◌<◌, length};
+ghost use Rattle.definitions.specs.Fields.{map_of, end_of, field_of};
+ghost use Rattle.record.specs.Cursor.{parts_of};
 ghost use Rattle.definitions.specs.Requests.{request_layout, needed_bits, map_fits, path_if, path_of, embedded_in, request_for, read_request};
 
-use crate::found::{Found, Part, Parts};
+use crate::form::Form;
 use crate::reader::read_ticket;
 use crate::ticket::blank_ticket;
-use crate::{both, map_of, present, take_field};
+use crate::{map_of, present};
 use definitions::{Error, Field, Kind, Request, Span, Ticket};
 
 // The map bits that a request of each kind needs, and those that it may have (R4.2). There is no kind 0.
@@ -16,7 +16,7 @@ const NEEDED: [u16; 5] = [0, 0x41, 0x91, 0x51, 0xB3];
 const ALLOWED: [u16; 5] = [0, 0x4B, 0x9B, 0x5B, 0xBF];
 
 // The fields of a request, by map bit (R4.1).
-const LAYOUT: [Field; 8] = [
+pub(crate) const LAYOUT: [Field; 8] = [
     Field { head: 1, unit: 0 }, // kind
     Field { head: 4, unit: 0 }, // options
     Field { head: 4, unit: 0 }, // PAC options
@@ -37,14 +37,12 @@ pub(crate) fn needed_bits(kind: usize) -> u16
 }
 
 // Whether a map has the bits that a kind needs, and none beyond those that it may have.
+#[tactic(auto, unfolding(definitions::specs::Requests::map_fits))]
 fn map_fits(kind: usize, map: u16) -> bool
     requires { kind < 5 }
     ensures { result ≡ map_fits kind map }
 {
-    both(
-        NEEDED[kind] & map == NEEDED[kind],
-        ALLOWED[kind] & map == map,
-    )
+    NEEDED[kind] & map == NEEDED[kind] && ALLOWED[kind] & map == map
 }
 
 // A kind where the table has the map.
@@ -79,69 +77,47 @@ pub(crate) fn path_of(kind: u8, map: u16) -> Option<Kind>
     }
 }
 
-// What the field of a map bit is made of.
-pub(crate) fn request_row(bit: usize) -> Field
-    requires { bit < length request_layout }
-    ensures { result ≡ field_at request_layout bit }
-{
-    LAYOUT[bit]
+// The numbers and the parts of a request.
+#[derive(Clone, Copy)]
+struct Parts {
+    options: u32,
+    pac_options: u32,
+    till: u32,
+    tgt: Span,
+    evidence: Span,
+    user: Span,
+    service: Span,
 }
 
-// The field of a map bit at the cursor.
-fn request_field(bytes: &[u8], map: u16, bit: usize, at: usize) -> Found
-    requires { (bit < length request_layout) × (at ≡ offset_of request_layout bytes.now map bit) × (at ≤ cursor_most bit) }
-    ensures { Taken request_layout bytes.now map bit result }
+// The fields of a request, front to back, each taken once; none where a byte is missing or left over.
+fn parts_of(bytes: &[u8], map: u16) -> Option<Parts>
+    ensures { result ≡ (if length bytes.now == end_of request_layout bytes.now map then Some (parts_of bytes.now map) else None) }
 {
-    take_field(bytes, map, bit, request_row(bit), at)
-}
-
-// The part of the request that the field of a map bit counts, at the cursor.
-fn part_at(bytes: &[u8], map: u16, bit: usize, at: usize) -> Part
-    requires { (bit < length request_layout) × (at ≡ offset_of request_layout bytes.now map bit) × (at ≤ cursor_most bit) }
-    ensures { Counted bytes.now map bit result }
-{
-    let found = request_field(bytes, map, bit, at);
-    let field = request_row(bit);
-    let len = field.unit * (found.value % 256) as usize;
-    let next = found.next;
-    if present(map, bit) {
-        let span = Span {
-            at: at + field.head,
-            len,
-        };
-        Part { span, next }
+    let form = Form {
+        layout: &LAYOUT,
+        map,
+    };
+    let mut at = 2;
+    form.take(bytes, 0, &mut at);
+    let options = form.take(bytes, 1, &mut at);
+    let pac_options = form.take(bytes, 2, &mut at);
+    let till = form.take(bytes, 3, &mut at);
+    let tgt = form.take_counted(bytes, 4, &mut at);
+    let evidence = form.take_counted(bytes, 5, &mut at);
+    let user = form.take_counted(bytes, 6, &mut at);
+    let service = form.take_counted(bytes, 7, &mut at);
+    if bytes.len() == at {
+        Some(Parts {
+            options,
+            pac_options,
+            till,
+            tgt,
+            evidence,
+            user,
+            service,
+        })
     } else {
-        let span = Span { at: 0, len };
-        Part { span, next }
-    }
-}
-
-// The fields of a request, front to back, each taken once.
-fn parts_of(bytes: &[u8], map: u16) -> Parts
-    ensures { Parted bytes.now map result }
-{
-    let first = request_field(bytes, map, 0, 2);
-    let options = request_field(bytes, map, 1, first.next);
-    let pac_options = request_field(bytes, map, 2, options.next);
-    let till = request_field(bytes, map, 3, pac_options.next);
-    let tgt = part_at(bytes, map, 4, till.next);
-    let evidence = part_at(bytes, map, 5, tgt.next);
-    let user = part_at(bytes, map, 6, evidence.next);
-    let service = part_at(bytes, map, 7, user.next);
-    let past = service.next;
-    let tgt = tgt.span;
-    let evidence = evidence.span;
-    let user = user.span;
-    let service = service.span;
-    Parts {
-        options: options.value,
-        pac_options: pac_options.value,
-        till: till.value,
-        tgt,
-        evidence,
-        user,
-        service,
-        past,
+        None
     }
 }
 
@@ -151,9 +127,7 @@ fn embedded_in(bytes: &[u8], map: u16, bit: usize, span: Span) -> Result<Ticket,
     ensures { result ≡ embedded_in bytes.now map bit span }
 {
     if present(map, bit) {
-        let from = span.at;
-        let to = from + span.len;
-        read_ticket(&bytes[from..to])
+        read_ticket(&bytes[span.at..span.at + span.len])
     } else {
         Ok(blank_ticket())
     }
@@ -164,8 +138,13 @@ pub fn request_path(bytes: &[u8]) -> Option<Kind>
     ensures { result ≡ path_of (field_of request_layout bytes.now (map_of bytes.now) 0) (map_of bytes.now) }
 {
     let map = map_of(bytes);
-    let kind = request_field(bytes, map, 0, 2);
-    path_of(kind.value as u8, map)
+    let form = Form {
+        layout: &LAYOUT,
+        map,
+    };
+    let mut at = 2;
+    let kind = form.take(bytes, 0, &mut at);
+    path_of(kind as u8, map)
 }
 
 // The request of the bytes, of the kind that they pick, or 60.
@@ -173,10 +152,9 @@ pub fn read_rest(bytes: &[u8], kind: Kind) -> Result<Request, Error>
     ensures { result ≡ request_for bytes.now (map_of bytes.now) (Some kind) }
 {
     let map = map_of(bytes);
-    let parts = parts_of(bytes, map);
-    if bytes.len() != parts.past {
+    let Some(parts) = parts_of(bytes, map) else {
         return Err(Error::KRB_ERR_GENERIC);
-    }
+    };
     let tgt = embedded_in(bytes, map, 4, parts.tgt)?;
     let evidence = embedded_in(bytes, map, 5, parts.evidence)?;
     Ok(Request {
@@ -195,8 +173,8 @@ pub fn read_rest(bytes: &[u8], kind: Kind) -> Result<Request, Error>
 pub fn read_request(bytes: &[u8]) -> Result<Request, Error>
     ensures { result ≡ read_request bytes.now }
 {
-    let Some(kind) = request_path(bytes) else {
-        return Err(Error::KRB_ERR_GENERIC);
-    };
-    read_rest(bytes, kind)
+    match request_path(bytes) {
+        Some(kind) => read_rest(bytes, kind),
+        None => Err(Error::KRB_ERR_GENERIC),
+    }
 }

@@ -1,15 +1,15 @@
 // The ticket writer: any ticket value and any output to the ticket's record, 60 or 52 (R3.6, R3.7).
-// Each function that puts bytes returns the position past them.
-ghost use Rattle.std.specs.Prelude.{◌≡◌, ◌+◌, ◌≤◌, ◌<◌, length, take, drop};
+ghost use Rattle.std.specs.Prelude.{◌≡◌, ◌+◌, ◌≤◌, ◌<◌, length, drop};
 ghost use Rattle.definitions.specs.Limits.{longest_record, trail_limit};
-ghost use Rattle.definitions.specs.Fields.{big_endian, plain, field_bytes};
-ghost use Rattle.definitions.specs.TicketRecords.{ticket_layout, map_for, all_zero, service_fits, well_formed, record_as};
+ghost use Rattle.definitions.specs.Fields.{big_endian};
+ghost use Rattle.definitions.specs.TicketRecords.{map_for, all_zero, service_fits, well_formed, record_as};
 ghost use Rattle.definitions.specs.Output.{written_of, output_of};
-ghost use Rattle.record.specs.Cursor.{put_most, Wrote};
+ghost use Rattle.record.specs.Cursor.{Wrote};
 
-use crate::reader::{hops_fit, ticket_row};
+use crate::form::Form;
+use crate::present;
+use crate::reader::{LAYOUT, hops_fit};
 use crate::ticket::{evidence_of, origin_map, tgt_of, trail_word};
-use crate::{both, present};
 use definitions::{Error, LONGEST_RECORD, Origin, Principal, TRAIL_LIMIT, Ticket};
 
 // The map of an origin, with or without the barred mark.
@@ -32,109 +32,69 @@ fn zero_behind(trail: [Principal; TRAIL_LIMIT], hops: u8) -> bool
 }
 
 // Whether a service stands only where the map has one.
+#[tactic(auto, unfolding(definitions::specs::TicketRecords::service_fits))]
 fn service_fits(map: u16, service: u8) -> bool
     ensures { result ≡ service_fits map service }
 {
-    if present(map, 3) { true } else { service == 0 }
+    present(map, 3) || service == 0
 }
 
 // Whether the reader can give this ticket.
+#[tactic(auto, unfolding(definitions::specs::TicketRecords::well_formed))]
 fn well_formed(t: Ticket, map: u16) -> bool
     ensures { result ≡ well_formed t map }
 {
     let hops = t.hops;
     let trail = t.trail;
-    both(
-        both(service_fits(map, t.service), hops_fit(map, hops)),
-        zero_behind(trail, hops),
-    )
+    service_fits(map, t.service) && hops_fit(map, hops) && zero_behind(trail, hops)
 }
 
-// Puts a number, big-endian, in so many bytes.
-pub(crate) fn put(out: &mut [u8], at: usize, width: usize, number: u32) -> usize
-    requires { at + width ≤ length out.old }
-    ensures put { Wrote out.old at (big_endian width number) out.new result }
-    ensures bounded { result ≤ at + width }
+// Puts a number at the cursor, big-endian, in so many bytes.
+pub(crate) fn put(out: &mut [u8], at: &mut usize, width: usize, number: u32)
+    requires { (at.old + width ≤ length out.old) × (width ≤ 4) }
+    ensures put { Wrote out.old at.old (big_endian width number) out.new at.new }
+    ensures past { at.new ≡ at.old + width }
 {
-    let mut i = width;
-    let mut rest = number;
-    while 0 < i {
-        i -= 1;
-        out[at + i] = (rest % 256) as u8;
-        rest = rest / 256;
-    }
-    at + width
+    let end = *at + width;
+    out[*at..end].copy_from_slice(&number.to_be_bytes()[4 - width..]);
+    *at = end;
 }
 
-// Puts the first bytes of a slice.
-pub(crate) fn copy(out: &mut [u8], at: usize, src: &[u8], n: usize) -> usize
-    requires { (at + n ≤ length out.old) × (n ≤ length src.now) }
-    ensures put { Wrote out.old at (take n src.now) out.new result }
-    ensures bounded { result ≤ at + n }
+// Puts the bytes of a slice at the cursor.
+pub(crate) fn copy(out: &mut [u8], at: &mut usize, src: &[u8])
+    requires { at.old + length src.now ≤ length out.old }
+    ensures put { Wrote out.old at.old src.now out.new at.new }
+    ensures past { at.new ≡ at.old + length src.now }
 {
-    for i in 0..n {
-        out[at + i] = src[i];
-    }
-    at + n
+    let end = *at + src.len();
+    out[*at..end].copy_from_slice(src);
+    *at = end;
 }
 
-// Puts the field of a map bit that holds a plain number, if the map has it.
-fn put_field(out: &mut [u8], at: usize, map: u16, bit: usize, number: u32) -> usize
-    requires { (bit < length ticket_layout) × (at ≤ put_most ticket_layout bit) × (longest_record ≤ length out.old) }
-    ensures put { Wrote out.old at (field_bytes ticket_layout map bit (plain number)) out.new result }
-    ensures bounded { (result ≤ put_most ticket_layout (bit + 1)) × (longest_record ≤ length out.new) }
-{
-    if present(map, bit) {
-        let field = ticket_row(bit);
-        put(out, at, field.head, number)
-    } else {
-        at
-    }
-}
-
-// Puts the trail behind its count, if the map has one.
-fn put_trail(
-    out: &mut [u8],
-    at: usize,
-    map: u16,
-    trail: [Principal; TRAIL_LIMIT],
-    hops: u8,
-) -> usize
-    requires { (at ≤ put_most ticket_layout 8) × (hops ≤ trail_limit) × (longest_record ≤ length out.old) }
-    ensures put { Wrote out.old at (field_bytes ticket_layout map 8 (record { number = hops; counted = take hops trail })) out.new result }
-    ensures bounded { (result ≤ put_most ticket_layout 9) × (longest_record ≤ length out.new) }
-{
-    if present(map, 8) {
-        let next = put(out, at, 1, hops as u32);
-        copy(out, next, &trail, hops as usize)
-    } else {
-        at
-    }
-}
-
-// Puts the record of a ticket with a map, front to back.
+// Puts the record of a ticket with a map, front to back, and returns its length.
 fn put_record(out: &mut [u8], t: Ticket, map: u16) -> usize
     requires { (longest_record ≤ length out.old) × (t.hops ≤ trail_limit) }
     ensures put { Wrote out.old 0 (record_as t map) out.new result }
     ensures bounded { result ≤ longest_record }
 {
-    let origin = t.origin;
+    let form = Form {
+        layout: &LAYOUT,
+        map,
+    };
+    let mut at = 0;
+    put(out, &mut at, 2, map as u32);
+    form.put(out, &mut at, 0, t.number as u32, b"");
+    form.put(out, &mut at, 1, t.flags, b"");
+    form.put(out, &mut at, 2, t.client as u32, b"");
+    form.put(out, &mut at, 3, t.service as u32, b"");
+    form.put(out, &mut at, 4, t.window.start, b"");
+    form.put(out, &mut at, 5, t.window.end, b"");
+    form.put(out, &mut at, 6, tgt_of(t.origin) as u32, b"");
+    form.put(out, &mut at, 7, evidence_of(t.origin) as u32, b"");
+    let hops = t.hops;
     let trail = t.trail;
-    let number = t.number as u32;
-    let client = t.client as u32;
-    let service = t.service as u32;
-    let tgt = tgt_of(origin) as u32;
-    let evidence = evidence_of(origin) as u32;
-    let a = put(out, 0, 2, map as u32);
-    let a = put_field(out, a, map, 0, number);
-    let a = put_field(out, a, map, 1, t.flags);
-    let a = put_field(out, a, map, 2, client);
-    let a = put_field(out, a, map, 3, service);
-    let a = put_field(out, a, map, 4, t.window.start);
-    let a = put_field(out, a, map, 5, t.window.end);
-    let a = put_field(out, a, map, 6, tgt);
-    let a = put_field(out, a, map, 7, evidence);
-    put_trail(out, a, map, trail, t.hops)
+    form.put(out, &mut at, 8, hops as u32, &trail[..hops as usize]);
+    at
 }
 
 // The record of a ticket, at the start of the output; 60 to a ticket that has none, then 52 to an output shorter than the longest record.

@@ -1,14 +1,10 @@
-use mathlib.Core.Path.{sym, ◌∙◌}
-use native.Mathlib.Omega.{arith}
+use Rattle.std.proofs.Common.{sym, ◌∙◌, arith}
 use Rattle.definitions.specs.Requests.{request_layout}
 use Rattle.definitions.proofs.Fields.{offset-first}
-use borrow.Author.Rules.{rules}
 use Rattle.record.proofs.request.request_path.Goals as goal
 
-pub request_field-kind-requires : goal.request_field-kind-requires
-request_field-kind-requires c = (search rules, sym (offset-first request_layout c.args.bytes.now c.map_of-map.result), search rules)
+pub take-kind-requires-clause-start : goal.take-kind-requires-clause-start
+take-kind-requires-clause-start c = sym (offset-first request_layout c.args.bytes.now c.map_of-map.result)
 
 pub returns : goal.returns
-returns c =
-    let m = c.map_of-map in
-    c.path_of.ensures ∙ rw (c.request_field-kind.ensures.single (omega arith), m.ensures)
+returns c = c.path_of.ensures ∙ rw (c.take-kind.ensures.single (omega arith), c.map_of-map.ensures)

@@ -1,9 +1,16 @@
-use Rattle.definitions.specs.RequestWriting.{request_parts}
-use Rattle.record.proofs.Cursor.{wrote-request}
+use Rattle.definitions.specs.Fields.{bytes_to}
+use Rattle.record.proofs.Cursor.{wrote_then}
 use Rattle.record.proofs.request_writer.put_request.Goals as goal
 
 pub returns : goal.returns
+unfolding bytes_to
 returns c =
-    let a = c.args in
-    wrote-request (request_parts a.kind a.options a.pac_options a.till a.tgt.now a.evidence.now a.user.now a.service.now 0)
-    a.map c.put_numbers-texts.ensures.put c.put_texts.ensures
+    wrote_then (wrote_then (wrote_then (wrote_then (wrote_then (wrote_then (wrote_then (wrote_then c.put.ensures.put
+    c.put-2.ensures.put)
+    c.put-3.ensures.put)
+    c.put-4.ensures.put)
+    c.put-5.ensures.put)
+    c.put-6.ensures.put)
+    c.put-7.ensures.put)
+    c.put-8.ensures.put)
+    c.put-9.ensures.put

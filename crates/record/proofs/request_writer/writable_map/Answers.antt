@@ -1,23 +1,13 @@
-use mathlib.Core.Path.{◌≡◌, sym, ap, ◌∙◌}
-use mathlib.Core.Bool.{◌&&◌, cond}
-use lib.ListN.{length}
-use Rattle.definitions.specs.Requests.{request_layout}
-use Rattle.definitions.specs.RequestWriting.{request_parts, part_values, numbers_fit, record_fits}
-use Rattle.record.proofs.Cursor.{map-writable}
+use Rattle.std.proofs.Common.{◌∙◌}
+use Rattle.record.specs.Drafts.{drafted}
+use Rattle.record.proofs.Cursor.{map-writable, map-unwritable}
 use Rattle.record.proofs.request_writer.writable_map.Goals as goal
 
-pub returns-then-both : goal.returns-then-both
-unfolding numbers_fit
-returns-then-both c =
-    let a = c.args in
-    let p = request_parts a.kind a.options a.pac_options a.till a.tgt.now a.evidence.now a.user.now a.service.now a.fields in
-    let test : c.both.result ≡ (numbers_fit request_layout c.map_with-map.result (part_values p) (length request_layout) && (record_fits c.map_with-map.result 4 p.tgt && record_fits c.map_with-map.result 5 p.evidence)) = cc in
-    ap (λ t. cond t c.map_with-map.result 0) (sym c.if-both.true) ∙ map-writable p c.map_with-map.result c.both.result c.map_with-map.ensures test
+pub returns-in_err-map : goal.returns-in_err-map
+returns-in_err-map c = c.from_residual.ensures ∙ map-unwritable (drafted c.args.draft) c.in_err-map.ensures
 
-pub returns-else-both : goal.returns-else-both
-unfolding numbers_fit
-returns-else-both c =
-    let a = c.args in
-    let p = request_parts a.kind a.options a.pac_options a.till a.tgt.now a.evidence.now a.user.now a.service.now a.fields in
-    let test : c.both.result ≡ (numbers_fit request_layout c.map_with-map.result (part_values p) (length request_layout) && (record_fits c.map_with-map.result 4 p.tgt && record_fits c.map_with-map.result 5 p.evidence)) = cc in
-    ap (λ t. cond t c.map_with-map.result 0) (sym c.if-both.false) ∙ map-writable p c.map_with-map.result c.both.result c.map_with-map.ensures test
+pub returns-then-draft_fits : goal.returns-then-draft_fits
+returns-then-draft_fits c = map-writable (drafted c.args.draft) c.in_ok-map.map c.in_ok-map.ensures _ c.if-draft_fits.ensures
+
+pub returns-else-draft_fits : goal.returns-else-draft_fits
+returns-else-draft_fits c = map-writable (drafted c.args.draft) c.in_ok-map.map c.in_ok-map.ensures _ c.if-draft_fits.ensures

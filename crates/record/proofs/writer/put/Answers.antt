@@ -1,30 +1,11 @@
-use Prim.Native.Nat.{suc, ◌-◌}
-use mathlib.Core.Path.{◌≡◌, refl, ◌∙◌}
-use native.Mathlib.Omega.{arith}
-use lib.ListN.{length-set}
-use Rattle.definitions.specs.Fields.{big_endian}
-use Rattle.record.proofs.Cursor.{put_step}
+use mathlib.Core.Path.{◌∙◌}
 use Rattle.definitions.proofs.Fields.{length-big_endian}
-use borrow.Author.Rules.{rules}
+use Rattle.record.proofs.Copied.{wrote-part, last-bytes}
 use Rattle.record.proofs.writer.put.Goals as goal
 
-pub loop-i-init : goal.loop-i-init
-loop-i-init c = (search rules, refl, refl)
-
-pub loop-i-preserved : goal.loop-i-preserved
-loop-i-preserved c =
-    let l = c.loop-i in
+pub returns-clause-put : goal.returns-clause-put
+returns-clause-put c =
     let a = c.args in
-    let e : l.i ≡ suc (l.i - 1) = omega arith in (
-      search rules,
-      simp length-set l.invariant.1,
-      put_step l.out a.at (l.i - 1) l.rest ∙ rw e at l.invariant.2,
-    )
-
-pub returns : goal.returns
-unfolding big_endian
-returns c =
-    let e : c.loop-i.i ≡ 0 = omega arith in record {
-      put = record { put = rw e at c.loop-i.invariant.2; past = rw length-big_endian };
-      bounded = search rules;
-    }
+    wrote-part a.out.now _ _ a.at.now a.width
+    (c.copy_from_slice.ensures.after ∙ rw c.to_be_bytes.ensures (last-bytes a.number a.width c.requires.1))
+    (length-big_endian a.width a.number) c.requires.0

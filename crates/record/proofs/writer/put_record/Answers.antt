@@ -1,29 +1,35 @@
-use mathlib.Core.Path.{refl, sym}
+use Rattle.std.proofs.Common.{◌≤◌, length, refl, sym, arith, rules}
+use lib.Seq.{length-take-le}
 use Rattle.definitions.specs.Fields.{bytes_to}
-use Rattle.definitions.specs.TicketRecords.{values_of, record_as}
-use Rattle.record.proofs.Cursor.{wrote_then, wrote-mark}
-use borrow.Author.Rules.{rules}
+use Rattle.definitions.specs.TicketRecords.{ticket_layout, values_of, record_as}
+use Rattle.record.proofs.Cursor.{size-most, wrote_then, wrote-mark}
 use Rattle.record.proofs.writer.put_record.Goals as goal
 
-pub put_trail-requires : goal.put_trail-requires
-put_trail-requires c = (c.put_field-a-8.ensures.bounded.0, c.requires.1, c.put_field-a-8.ensures.bounded.1)
+pub put-requires-10-clause-room : goal.put-requires-10-clause-room
+put-requires-10-clause-room c =
+    let h : c.args.t.hops ≤ length c.args.t.trail = search rules in
+    rw length-take-le (omega (arith, size-most ticket_layout c.args.map 8 c.args.t.hops))
 
-pub returns : goal.returns
+pub returns-clause-put : goal.returns-clause-put
 unfolding record_as bytes_to
-returns c =
-    let a = c.args in record {
-      put = wrote-mark (values_of a.t) a.map 10 refl refl
-          (wrote-mark (values_of a.t) a.map 9 refl refl
-          (rw (sym c.tgt_of-tgt.ensures, sym c.evidence_of-evidence.ensures)
-          (wrote_then (wrote_then (wrote_then (wrote_then (wrote_then (wrote_then (wrote_then (wrote_then (wrote_then c.put-a.ensures.put
-          c.put_field-a.ensures.put)
-          c.put_field-a-2.ensures.put)
-          c.put_field-a-3.ensures.put)
-          c.put_field-a-4.ensures.put)
-          c.put_field-a-5.ensures.put)
-          c.put_field-a-6.ensures.put)
-          c.put_field-a-7.ensures.put)
-          c.put_field-a-8.ensures.put)
-          c.put_trail.ensures.put)));
-      bounded = search rules;
-    }
+returns-clause-put c =
+    let a = c.args in
+    wrote-mark (values_of a.t) a.map 10 refl refl
+    (wrote-mark (values_of a.t) a.map 9 refl refl
+    (rw (sym c.tgt_of.ensures, sym c.evidence_of.ensures)
+    (wrote_then (wrote_then (wrote_then (wrote_then (wrote_then (wrote_then (wrote_then (wrote_then (wrote_then c.put.ensures.put
+    c.put-2.ensures.put)
+    c.put-3.ensures.put)
+    c.put-4.ensures.put)
+    c.put-5.ensures.put)
+    c.put-6.ensures.put)
+    c.put-7.ensures.put)
+    c.put-8.ensures.put)
+    c.put-9.ensures.put)
+    c.put-10.ensures.put)))
+
+pub returns-clause-bounded : goal.returns-clause-bounded
+returns-clause-bounded c =
+    let h : c.args.t.hops ≤ length c.args.t.trail = search rules in
+    let e = rw length-take-le at c.put-10.ensures.most in
+    omega arith

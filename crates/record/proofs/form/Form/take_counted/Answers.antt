@@ -1,0 +1,34 @@
+use Rattle.std.proofs.Common.{sym, arith}
+use Rattle.definitions.specs.Fields.{field_of}
+use Rattle.record.proofs.Cursor.{units-few, small_at}
+use Rattle.record.proofs.form.Form.take_counted.Goals as goal
+
+pub returns-then-not-present : goal.returns-then-not-present
+unfolding field_of
+returns-then-not-present c =
+    let h = sym c.if-not-present.ensures in
+    let t = c.take-count.ensures in
+    record {
+      at = λ w. rw h;
+      len = λ w. rw h (omega arith);
+      next = t.next;
+      bounded = t.bounded;
+    }
+
+pub overflow_add-result : goal.overflow_add-result
+overflow_add-result c = let s = small_at c.args.self.layout.now c.args.self.small c.args.bit in omega arith
+
+pub overflow_mul-result : goal.overflow_mul-result
+overflow_mul-result c =
+    let s = small_at c.args.self.layout.now c.args.self.small c.args.bit in
+    omega (arith, units-few _ c.take-count.result s.1)
+
+pub returns : goal.returns
+returns c =
+    let t = c.take-count.ensures in
+    record {
+      at = λ w. rw (sym c.if-not-present.ensures, c.requires.start);
+      len = λ w. rw (t.value w);
+      next = t.next;
+      bounded = t.bounded;
+    }
