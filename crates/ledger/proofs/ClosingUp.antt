@@ -8,12 +8,13 @@ use Prim.Native.Nat.{ℕ, zero, suc, ◌+◌, ◌-◌, ◌*◌, ◌/◌, ◌%◌
 use native.Mathlib.Nat.{zero-add, add-zero, mod-eq_of_lt, lt_of_le_of_lt, eq-or-lt_of_le, div-mul-le_self}
 use native.Mathlib.Numerals.{add-one}
 use native.Mathlib.Omega.{arith}
+use Rattle.std.specs.Prelude.{Option, Some, None, MatchOption}
 use lib.Dec.{eqb, ltb}
 use lib.Pow.{shr-shr, shr_lt, high}
 use lib.ListN.{length, get_or, set, replicate, length-append, length-replicate, replicate-append-replicate}
 use lib.Seq.{get_or-set_same, get_or-set_other, set-get_or, set-set, set_out}
 use borrow.Author.Tests.{eqb-true, eqb-false, ltb-true, ltb-false}
-use Rattle.definitions.specs.Limits.{ticket_limit, count_word, number_bits, numbers_in_word, numbers_start, places_start, place_size, two16, two48}
+use Rattle.definitions.specs.Limits.{ticket_limit, count_word, number_bits, numbers_in_word, numbers_start, places_start, two16, two48}
 use Rattle.definitions.specs.Words.{lane_of, set_lane, lane_at, put_lane, put_row}
 use Rattle.definitions.specs.LedgerWords.{Place, place_start, place_at, put_place, ticket_on, ticket_at, count_held, tickets_of}
 use Rattle.definitions.specs.Clearing.{stays, staying, gone_from, gone}
@@ -21,8 +22,8 @@ use Rattle.definitions.specs.ClearedWords.{places_from, held_places, free_place,
 use Rattle.definitions.proofs.Words.{put_other, row-set, row-lane}
 use Rattle.definitions.proofs.Clearing.{only-append}
 use Rattle.definitions.proofs.ClearedWords.{put-append, places-length, places-more, places-again, staying-few, behind-kept, gone-places}
-use Rattle.ledger.specs.ClosingUp.{lanes_over, kept_in, open_word, settled, AllStay, AllGo, Closed}
-use Rattle.ledger.specs.declared.clearing.Closing.{Closing}
+use Rattle.ledger.specs.ClosingUp.{lanes_over, open_word, settled, AllStay, AllGo, IsFirstGone, Closed}
+use Rattle.ledger.specs.declared.closing.Closing.{Closing}
 
 -- ---- A word of numbers with lanes of another's
 -- none of them
@@ -99,13 +100,13 @@ get-again v j x f h = by (ltb j (length v)) refl
 
 -- ---- The words with the numbers that wait
 -- where a word is full, none wait
-pub settled-full : (v : List ℕ) (closing : Closing) → closing.numbers < 2 ^ 64 → kept_in closing % numbers_in_word ≡ 0 → settled v closing ≡ v
+pub settled-full : (v : List ℕ) (closing : Closing) → closing.numbers < 2 ^ 64 → closing.kept % numbers_in_word ≡ 0 → settled v closing ≡ v
 unfolding settled
 settled-full v closing h e = rw (e, over_none (get_or v (open_word closing) 0) closing.numbers h) (set-get_or v (open_word closing) 0)
 
 module _ (v : List ℕ) (closing : Closing) where
   -- a row, put before or after
-  settled-row : (at : ℕ) (vs : List ℕ) → kept_in closing < ticket_limit → places_start ≤ at → settled (put_row v at vs) closing ≡ put_row (settled v closing) at vs
+  settled-row : (at : ℕ) (vs : List ℕ) → closing.kept < ticket_limit → places_start ≤ at → settled (put_row v at vs) closing ≡ put_row (settled v closing) at vs
   unfolding settled
   settled-row at vs h l =
       rw (put_other vs v at (open_word closing) (λ m. absurd (omega arith)))
@@ -114,38 +115,36 @@ module _ (v : List ℕ) (closing : Closing) where
   module _ (h : closing.numbers < 2 ^ 64) where
     -- one number more
     settled-more : (number : ℕ) → number < two16
-        → put_lane number_bits (settled v closing) numbers_start (kept_in closing) number
-        ≡ set v (open_word closing) (lanes_over (get_or v (open_word closing) 0) (pushed closing.numbers number) (suc (kept_in closing % 4)))
+        → put_lane number_bits (settled v closing) numbers_start (closing.kept) number
+        ≡ set v (open_word closing) (lanes_over (get_or v (open_word closing) 0) (pushed closing.numbers number) (suc (closing.kept % 4)))
     unfolding settled put_lane
     settled-more number b =
-        let x = lanes_over (get_or v (open_word closing) 0) closing.numbers (kept_in closing % 4) in
-        set-again v (open_word closing) x (λ (y : ℕ). set_lane number_bits y (kept_in closing % 4) number)
-        ∙ ap (set v (open_word closing)) (over-more (get_or v (open_word closing) 0) closing.numbers number (kept_in closing % 4) h b (omega arith))
+        let x = lanes_over (get_or v (open_word closing) 0) closing.numbers (closing.kept % 4) in
+        set-again v (open_word closing) x (λ (y : ℕ). set_lane number_bits y (closing.kept % 4) number)
+        ∙ ap (set v (open_word closing)) (over-more (get_or v (open_word closing) 0) closing.numbers number (closing.kept % 4) h b (omega arith))
 
-    -- the word is not full
-    pub pushed-on : (number : ℕ) → number < two16 → ((closing.at + place_size) / place_size % numbers_in_word ≡ 0 → ⊥)
-        → settled v (record { at = closing.at + place_size; numbers = pushed closing.numbers number })
-        ≡ put_lane number_bits (settled v closing) numbers_start (kept_in closing) number
-    unfolding settled
-    pushed-on number b d =
-        let e : (closing.at + 4) / 4 / 4 ≡ closing.at / 4 / 4 = omega (arith, d) in
-        let f : (closing.at + 4) / 4 % 4 ≡ suc (closing.at / 4 % 4) = omega (arith, d) in
-        rw (e, f) (sym (settled-more number b))
+    module _ (number : ℕ) (b : number < two16) (later : Closing) (k : later.kept ≡ closing.kept + 1) (m : later.numbers ≡ pushed closing.numbers number) where
+      -- the word is not full
+      pub pushed-on : (later.kept % numbers_in_word ≡ 0 → ⊥) → settled v later ≡ put_lane number_bits (settled v closing) numbers_start closing.kept number
+      unfolding settled
+      pushed-on d =
+          let e : later.kept / 4 ≡ closing.kept / 4 = omega (arith, d) in
+          let f : later.kept % 4 ≡ suc (closing.kept % 4) = omega (arith, d) in
+          rw (e, f, m) (sym (settled-more number b))
 
-    -- it is full, and is put
-    pub pushed-full : (number : ℕ) → number < two16 → (closing.at + place_size) / place_size % numbers_in_word ≡ 0 → get_or v (open_word closing) 0 < 2 ^ 64
-        → settled (set v (open_word closing) (pushed closing.numbers number)) (record { at = closing.at + place_size; numbers = pushed closing.numbers number })
-        ≡ put_lane number_bits (settled v closing) numbers_start (kept_in closing) number
-    pushed-full number b e x =
-        let f : suc (kept_in closing % 4) ≡ 4 = omega arith in
-        let all : lanes_over (get_or v (open_word closing) 0) (pushed closing.numbers number) (suc (kept_in closing % 4)) ≡ pushed closing.numbers number =
-        rw f (over-all (get_or v (open_word closing) 0) (pushed closing.numbers number) x)
-        in
-        settled-full (set v (open_word closing) (pushed closing.numbers number)) (record { at = closing.at + place_size; numbers = pushed closing.numbers number }) (omega arith) e
-        ∙ ap (set v (open_word closing)) (sym all) ∙ sym (settled-more number b)
+      -- it is full, and is put
+      pub pushed-full : later.kept % numbers_in_word ≡ 0 → get_or v (open_word closing) 0 < 2 ^ 64
+          → settled (set v (open_word closing) (pushed closing.numbers number)) later ≡ put_lane number_bits (settled v closing) numbers_start closing.kept number
+      pushed-full e x =
+          let f : suc (closing.kept % 4) ≡ 4 = omega arith in
+          let all : lanes_over (get_or v (open_word closing) 0) (pushed closing.numbers number) (suc (closing.kept % 4)) ≡ pushed closing.numbers number =
+          rw f (over-all (get_or v (open_word closing) 0) (pushed closing.numbers number) x)
+          in
+          settled-full (set v (open_word closing) (pushed closing.numbers number)) later (omega arith) e
+          ∙ ap (set v (open_word closing)) (sym all) ∙ sym (settled-more number b)
 
     -- the places behind those kept have what they had
-    settled-number : (k : ℕ) → kept_in closing ≤ k → lane_at number_bits (settled v closing) numbers_start k ≡ lane_at number_bits v numbers_start k
+    settled-number : (k : ℕ) → closing.kept ≤ k → lane_at number_bits (settled v closing) numbers_start k ≡ lane_at number_bits v numbers_start k
     unfolding settled lane_at
     settled-number k m = by (eqb (numbers_start + k / 4) (open_word closing)) refl
       where
@@ -153,15 +152,15 @@ module _ (v : List ℕ) (closing : Closing) where
         by true e =
             let q : numbers_start + k / 4 ≡ open_word closing = eqb-true _ _ e in
             rw q
-            (get-again v (open_word closing) (lanes_over (get_or v (open_word closing) 0) closing.numbers (kept_in closing % 4)) (λ (y : ℕ). lane_of number_bits y (k % 4))
-            (over-lane (get_or v (open_word closing) 0) closing.numbers (kept_in closing % 4) (k % 4) h (omega arith) (omega arith)))
+            (get-again v (open_word closing) (lanes_over (get_or v (open_word closing) 0) closing.numbers (closing.kept % 4)) (λ (y : ℕ). lane_of number_bits y (k % 4))
+            (over-lane (get_or v (open_word closing) 0) closing.numbers (closing.kept % 4) (k % 4) h (omega arith) (omega arith)))
         by false e = rw (get_or-set_other v (open_word closing) (numbers_start + k / 4) _ 0 (eqb-false _ _ e))
 
-    settled-word : (k : ℕ) → k < ticket_limit → kept_in closing ≤ k → (j : ℕ) → get_or (settled v closing) (place_start k + j) 0 ≡ get_or v (place_start k + j) 0
+    settled-word : (k : ℕ) → k < ticket_limit → closing.kept ≤ k → (j : ℕ) → get_or (settled v closing) (place_start k + j) 0 ≡ get_or v (place_start k + j) 0
     unfolding settled
     settled-word k l m j = get_or-set_other v (open_word closing) (place_start k + j) _ 0 (λ e. omega arith)
 
-    settled-place : (k : ℕ) → kept_in closing ≤ k → k < ticket_limit → place_at (settled v closing) k ≡ place_at v k
+    settled-place : (k : ℕ) → closing.kept ≤ k → k < ticket_limit → place_at (settled v closing) k ≡ place_at v k
     settled-place k m l i =
         record {
           number = settled-number k m i;
@@ -169,13 +168,13 @@ module _ (v : List ℕ) (closing : Closing) where
         }
 
 -- a place more: its number, and its row
-pub settled-put : (v after : List ℕ) (closing later : Closing) (content : Place) → kept_in closing < ticket_limit
+pub settled-put : (v after : List ℕ) (closing later : Closing) (content : Place) → closing.kept < ticket_limit
     → settled after later
-    ≡ put_lane number_bits (settled (put_row v (place_start (kept_in closing)) content.row) closing) numbers_start (kept_in closing) content.number
-    → settled after later ≡ put_place (settled v closing) (kept_in closing) content
+    ≡ put_lane number_bits (settled (put_row v (place_start (closing.kept)) content.row) closing) numbers_start (closing.kept) content.number
+    → settled after later ≡ put_place (settled v closing) (closing.kept) content
 settled-put v after closing later content h e =
-    e ∙ ap (λ (l : List ℕ). put_lane number_bits l numbers_start (kept_in closing) content.number) (settled-row v closing (place_start (kept_in closing)) content.row h (omega arith))
-    ∙ sym (row-lane number_bits content.row (settled v closing) (place_start (kept_in closing)) numbers_start (kept_in closing) content.number (λ m. absurd (omega arith)))
+    e ∙ ap (λ (l : List ℕ). put_lane number_bits l numbers_start (closing.kept) content.number) (settled-row v closing (place_start (closing.kept)) content.row h (omega arith))
+    ∙ sym (row-lane number_bits content.row (settled v closing) (place_start (closing.kept)) numbers_start (closing.kept) content.number (λ m. absurd (omega arith)))
 
 -- behind the places that are put
 put_last : (w : List ℕ) (cs : List Place) (c : Place) → put_places w 0 (cs ++ (c ∷ [])) ≡ put_place (put_places w 0 cs) (length cs) c
@@ -216,11 +215,11 @@ pub all-go-more : (w : List ℕ) (clock i n : ℕ) → AllGo w clock i n → sta
 all-go-more w clock i n h g k a b = ⊎_elim (λ e. rw e at g) (λ l. h k (omega arith) b) (eq-or-lt_of_le a)
 
 -- where all stay, the words are closed up as they are
-pub closed-start : (w : List ℕ) (clock n : ℕ) → n % numbers_in_word ≡ 0 → AllStay w clock n → Closed w clock n w (record { at = place_size * n; numbers = 0 })
-closed-start w clock n e h =
+pub closed-start : (w : List ℕ) (clock n : ℕ) → n % numbers_in_word ≡ 0 → AllStay w clock n → (closing : Closing) → closing.kept ≡ n → closing.numbers ≡ 0 → Closed w clock n w closing
+closed-start w clock n e h closing k z =
     record {
-      count = sym (ap (λ (cs : List Place). place_size * length cs) (staying-all w clock n h) ∙ ap (λ (k : ℕ). place_size * k) (places-length w 0 n));
-      words = settled-full w (record { at = place_size * n; numbers = 0 }) (omega arith) (omega arith) ∙ sym (ap (put_places w 0) (staying-all w clock n h) ∙ places-again w 0 n);
+      count = k ∙ sym (ap (λ (cs : List Place). length cs) (staying-all w clock n h) ∙ places-length w 0 n);
+      words = settled-full w closing (omega arith) (omega arith) ∙ sym (ap (put_places w 0) (staying-all w clock n h) ∙ places-again w 0 n);
     }
 
 -- a place more whose ticket goes
@@ -270,8 +269,8 @@ module _ (w : List ℕ) (clock i : ℕ) (v : List ℕ) (closing : Closing) (fits
 
   -- a place whose ticket stays
   pub closed-kept : i < ticket_limit → stays clock (ticket_at v i) ≡ true → (number : ℕ) → number ≡ (place_at w i).number → (after : List ℕ) (later : Closing)
-      → later.at ≡ closing.at + place_size
-      → settled after later ≡ put_place (settled v closing) (kept_in closing) (record { number = number; row = (place_at v i).row })
+      → later.kept ≡ closing.kept + 1
+      → settled after later ≡ put_place (settled v closing) (closing.kept) (record { number = number; row = (place_at v i).row })
       → Closed w clock (i + 1) after later
   unfolding ticket_at
   closed-kept l g number n after later k e =
@@ -279,13 +278,13 @@ module _ (w : List ℕ) (clock i : ℕ) (v : List ℕ) (closing : Closing) (fits
       let q : stays clock (ticket_on (place_at w i)) ≡ true = ap (λ (p : Place). stays clock (ticket_on p)) (sym r) ∙ g in
       let kept = staying ticket_on clock (places_from w 0 i) in
       let f : staying ticket_on clock (places_from w 0 (i + 1)) ≡ kept ++ (place_at w i ∷ []) = staying-more w clock i ∙ rw q in
-      let m : kept_in closing ≡ length kept = omega (arith, c.count) in
+      let m : closing.kept ≡ length kept = omega (arith, c.count) in
       let p : ◌≡◌ {A = Place} (record { number = number; row = (place_at v i).row }) (place_at w i) = λ j. record { number = n j; row = (r j).row } in
       record {
         count = rw f (k ∙ omega (arith, c.count, length-append kept (place_at w i ∷ [])));
         words =
             rw f
-            (e ∙ ap (put_place (settled v closing) (kept_in closing)) p
+            (e ∙ ap (put_place (settled v closing) (closing.kept)) p
             ∙ ap₂ (λ (l : List ℕ) (at : ℕ). put_place l at (place_at w i)) c.words m ∙ sym (put_last w kept (place_at w i)));
       }
 
@@ -311,9 +310,9 @@ module _ (w : List ℕ) (clock : ℕ) where
 
   -- those that stay are closed up, and the others set free
   pub closed_all : (v : List ℕ) (closing : Closing) → Closed w clock (count_held w) v closing
-      → put_places (settled v closing) (kept_in closing) (replicate (count_held w - kept_in closing) free_place) ≡ put_places w 0 (closed_up clock (held_places w))
+      → put_places (settled v closing) (closing.kept) (replicate (count_held w - closing.kept) free_place) ≡ put_places w 0 (closed_up clock (held_places w))
   closed_all v closing c =
-      let m : kept_in closing ≡ length stayed = omega (arith, c.count) in
+      let m : closing.kept ≡ length stayed = omega (arith, c.count) in
       rw (c.words, m)
       (ap (λ (n : ℕ). put_places (put_places w 0 stayed) (length stayed) (replicate (n - length stayed) free_place)) (sym (places-length w 0 (count_held w)))
       ∙ sym (put-append w 0 stayed (replicate (gone_from ticket_on clock (held_places w)) free_place) ∙ rw zero-add))
@@ -339,3 +338,16 @@ module _ (w : List ℕ) (clock : ℕ) where
       rw (staying-all w clock (count_held w) all, z, append-nil (held_places w)) (places-again w 0 (count_held w))
       in
       clear-put w (count_held w) (sym e) (stayed-all all)
+
+-- the first place that a search over all of them finds
+pub first-gone : (w : List ℕ) (clock n : ℕ) (r : Option ℕ)
+    → MatchOption r ((k : ℕ) → 0 ≤ k → k < n → stays clock (ticket_at w k) ≡ true)
+    (λ i. (0 ≤ i) × (i < n) × (stays clock (ticket_at w i) ≡ false) × ((k : ℕ) → 0 ≤ k → k < i → stays clock (ticket_at w k) ≡ true))
+    → IsFirstGone w clock n r
+first-gone w clock n None h = λ k l. h k (omega arith) l
+first-gone w clock n (Some i) h = (h.1, λ k l. h.3 k (omega arith) l)
+
+-- where there is none, all stay
+pub none-gone : (w : List ℕ) (clock n : ℕ) (r : Option ℕ) → r ≡ None → IsFirstGone w clock n r → AllStay w clock n
+none-gone w clock n None e h = h
+none-gone w clock n (Some i) e h = absurd cc

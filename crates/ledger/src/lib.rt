@@ -3,6 +3,7 @@
 
 mod call;
 mod clearing;
+mod closing;
 mod held;
 mod search;
 mod steps;
@@ -10,9 +11,8 @@ mod storing;
 mod total;
 mod words;
 
-pub use call::{Replied, clear, demand_3, edit, fresh, request};
-pub use held::Held;
-pub use search::{first_held, held_at};
+pub use call::{clear, demand_3, edit, fresh, request};
+pub use held::{first_held, held_at};
 pub use steps::descent;
 pub use total::day_total;
 pub use words::{LedgerWords, count_held};

@@ -1,98 +1,50 @@
 // The descent call: the steps from a ticket to its initial one (R7.4, R9.1).
-ghost use Rattle.std.specs.Prelude.{◌≡◌, ◌≤◌};
-ghost use Rattle.ledger.specs.Lookups.{first_held};
+ghost use Rattle.std.specs.Prelude.{◌≡◌, ◌≤◌, IfOk};
 ghost use Rattle.definitions.specs.LedgerWords.{tickets_of};
 ghost use Rattle.definitions.specs.Descent.{back_of, descent, descended};
-ghost use Rattle.ledger.specs.BackSteps.{standing_of, back_to, steps_in, one_more};
+ghost use Rattle.ledger.specs.Lookups.{given};
 
-use crate::search::place_of;
-use crate::words::{LedgerWords, count_held, origin_at};
-use definitions::{Descended, Error, Origin, TWO_16};
-
-// Where a ticket's back number leads.
-#[derive(Clone, Copy)]
-pub enum Back {
-    Stop,
-    To(u16),
-}
-
-// Whether a number stands for a ticket, and where that comes from; initial stands where there is none.
-#[derive(Clone, Copy)]
-pub struct Standing {
-    pub found: bool,
-    pub origin: Origin,
-}
-
-// What a number stands for, its origin alone.
-fn standing_at(words: &LedgerWords, number: u16) -> Standing
-    ensures { result ≡ standing_of (first_held (tickets_of words.now) number) }
-{
-    let n = count_held(words);
-    let place = place_of(words, n, number);
-    if place < n {
-        Standing {
-            found: true,
-            origin: origin_at(words, place),
-        }
-    } else {
-        Standing {
-            found: false,
-            origin: Origin::Initial,
-        }
-    }
-}
+use crate::held::HeldTickets;
+use crate::words::LedgerWords;
+use definitions::{Error, Origin, TWO_16};
 
 // The number that one step back leads to: the evidence's of a delegated ticket, the TGT's of a direct or a self ticket.
-fn back_of(origin: Origin) -> Back
-    ensures { result ≡ back_to (back_of origin) }
+fn back_of(origin: Origin) -> Option<u16>
+    ensures { result ≡ given (back_of origin) }
 {
     match origin {
-        Origin::Initial => Back::Stop,
-        Origin::Direct(tgt) => Back::To(tgt),
-        Origin::S4U2self(tgt) => Back::To(tgt),
-        Origin::Delegated(_, evidence) => Back::To(evidence),
-    }
-}
-
-// One step more.
-fn one_more(d: Descended) -> Descended
-    requires { steps_in d ≤ 65535 }
-    ensures { result ≡ one_more d }
-{
-    match d {
-        Descended::Steps(n) => Descended::Steps(n + 1),
-        Descended::Refused(e) => Descended::Refused(e),
+        Origin::Initial => None,
+        Origin::Direct(tgt) => Some(tgt),
+        Origin::S4U2self(tgt) => Some(tgt),
+        Origin::Delegated(_, evidence) => Some(evidence),
     }
 }
 
 // The steps from a ticket to the initial one. Each step's number is smaller, so that the recursion ends.
-fn steps_from(words: &LedgerWords, number: u16) -> Descended
-    ensures exact { result ≡ descended (descent (tickets_of words.now) number) }
-    ensures bounded { steps_in result ≤ number }
+fn steps_from(held: HeldTickets, number: u16) -> Result<u32, Error>
+    ensures exact { result ≡ descended (descent (tickets_of held.entry.words.now) number) }
+    ensures bounded { IfOk result (λ steps. steps ≤ number) }
 {
-    let at = standing_at(words, number);
-    if !at.found {
-        return Descended::Refused(Error::KRB_AP_ERR_MODIFIED);
-    }
-    let origin = at.origin;
-    let back = back_of(origin);
-    let Back::To(next) = back else {
-        return Descended::Steps(0);
+    let Some(origin) = held.origin(number) else {
+        return Err(Error::KRB_AP_ERR_MODIFIED);
+    };
+    let Some(next) = back_of(origin) else {
+        return Ok(0);
     };
     if next < number {
-        one_more(steps_from(words, next))
+        Ok(steps_from(held, next)? + 1)
     } else {
-        Descended::Refused(Error::KRB_AP_ERR_MODIFIED)
+        Err(Error::KRB_AP_ERR_MODIFIED)
     }
 }
 
 // The descent call: the steps from the ticket of a number to its initial ticket, or 41.
-pub fn descent(words: &LedgerWords, number: u32) -> Descended
+pub fn descent(words: &LedgerWords, number: u32) -> Result<u32, Error>
     ensures { result ≡ descended (descent (tickets_of words.now) number) }
 {
     if (number as u64) < TWO_16 {
-        steps_from(words, number as u16)
+        steps_from(HeldTickets::of(words), number as u16)
     } else {
-        Descended::Refused(Error::KRB_AP_ERR_MODIFIED)
+        Err(Error::KRB_AP_ERR_MODIFIED)
     }
 }

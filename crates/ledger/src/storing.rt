@@ -1,11 +1,10 @@
 // A ticket put behind those held (R7.3).
 ghost use Rattle.std.specs.Prelude.{◌≡◌, ◌+◌, ◌*◌, ◌<◌};
-ghost use Rattle.definitions.specs.Limits.{ticket_limit, two32, two40, two48, two56, two60};
-ghost use Rattle.definitions.specs.TicketRecords.{tgt_of, evidence_of};
-ghost use Rattle.definitions.specs.LedgerWords.{count_held, next_number, tag_of, mark_of, put_ticket, store_ticket};
+ghost use Rattle.definitions.specs.Limits.{ticket_limit};
+ghost use Rattle.definitions.specs.LedgerWords.{count_held, next_number, tag_of, ticket_words, store_ticket};
 
-use crate::words::{LedgerWords, put_count, put_next, put_number, put_place};
-use definitions::{Origin, TWO_32, TWO_40, TWO_48, TWO_56, TWO_60, Ticket, Window};
+use crate::words::{LedgerWords, Place, Row, count_held, put_count, put_next};
+use definitions::{Origin, TWO_32, TWO_40, TWO_48, TWO_56, TWO_60, Ticket};
 use rules::{evidence_of, tgt_of, trail_word};
 
 // The tag of an origin.
@@ -21,61 +20,32 @@ fn tag_of(o: Origin) -> u64
     }
 }
 
-// The barred mark, as it is stored.
-fn mark_of(barred: bool) -> u64
-    ensures exact { result ≡ mark_of barred }
-    ensures bounded { result < 2 }
+// The four words of a ticket: flags, client, service, hops, tag and mark; the window; the back numbers; the trail.
+fn row_of(t: Ticket) -> Row
+    ensures { result ≡ ticket_words t }
 {
-    if barred { 1 } else { 0 }
+    let fields = t.flags as u64
+        + TWO_32 * t.client as u64
+        + TWO_40 * t.service as u64
+        + TWO_48 * t.hops as u64;
+    [
+        fields + TWO_56 * tag_of(t.origin) + TWO_60 * u64::from(t.barred),
+        t.window.start as u64 + TWO_32 * t.window.end as u64,
+        TWO_32 * tgt_of(t.origin) as u64 + TWO_48 * evidence_of(t.origin) as u64,
+        trail_word(t.trail),
+    ]
 }
 
-// The word of a ticket's flags, client, service, hops, tag and mark.
-fn first_word(flags: u32, client: u8, service: u8, hops: u8, o: Origin, barred: bool) -> u64
-    ensures { result ≡ flags + two32 * client + two40 * service + two48 * hops + two56 * tag_of o + two60 * mark_of barred }
-{
-    let fields = flags as u64
-        + TWO_32 * client as u64
-        + TWO_40 * service as u64
-        + TWO_48 * hops as u64;
-    fields + TWO_56 * tag_of(o) + TWO_60 * mark_of(barred)
-}
-
-// The word of a ticket's window.
-fn second_word(w: Window) -> u64
-    ensures { result ≡ w.start + two32 * w.end }
-{
-    w.start as u64 + TWO_32 * w.end as u64
-}
-
-// The word of an origin's back numbers.
-fn third_word(o: Origin) -> u64
-    ensures { result ≡ two32 * tgt_of o + two48 * evidence_of o }
-{
-    TWO_32 * tgt_of(o) as u64 + TWO_48 * evidence_of(o) as u64
-}
-
-// Puts a ticket at a place.
-fn put_ticket(words: &mut LedgerWords, i: usize, t: Ticket)
-    requires { i < ticket_limit }
-    ensures { words.new ≡ put_ticket words.old i t }
-{
-    let window = t.window;
-    let origin = t.origin;
-    let trail = t.trail;
-    let a = first_word(t.flags, t.client, t.service, t.hops, origin, t.barred);
-    let b = second_word(window);
-    let c = third_word(origin);
-    let d = trail_word(trail);
-    put_number(words, i, t.number);
-    put_place(words, i, a, b, c, d);
-}
-
-// Stores a ticket, which has the next number, behind those held, of which there are n.
-pub(crate) fn store_ticket(words: &mut LedgerWords, n: usize, t: Ticket)
-    requires { (n ≡ count_held words.old) × (n < ticket_limit) × (t.number ≡ next_number words.old) }
+// Stores a ticket, which has the next number, behind those held.
+#[tactic(auto, unfolding(definitions::specs::LedgerWords::store_ticket))]
+pub(crate) fn store_ticket(words: &mut LedgerWords, t: Ticket)
+    requires { (count_held words.old < ticket_limit) × (t.number ≡ next_number words.old) }
     ensures { words.new ≡ store_ticket words.old t }
 {
-    put_ticket(words, n, t);
+    let n = count_held(words);
+    let place = Place { index: n };
+    place.put_number(words, t.number);
+    place.put_row(words, &row_of(t));
     put_count(words, n + 1);
     put_next(words, t.number as u64 + 1);
 }

@@ -22,7 +22,7 @@ pub use letters::words_match;
 pub use name::find_name;
 pub use options::{asks_forwardable, has_cname_in_addl_tkt, is_resource_based};
 pub use record::{
-    blank_ticket, evidence_of, read_rest, request_path, same_ticket, tgt_of, trail_word,
+    blank_ticket, evidence_of, read_rest, request_path, tgt_of, trail_word,
     write_ticket,
 };
 pub use spelt::{NameBytes, read_name};

@@ -1,29 +1,78 @@
-use mathlib.Core.Path.{refl, sym, ◌∙◌}
+use mathlib.Core.Path.{◌≡◌, refl, sym, ◌∙◌}
 use native.Mathlib.Omega.{arith}
 use lib.ListN.{length}
+use Rattle.std.specs.Prelude.{Result, Ok, Err}
+use Rattle.std.proofs.lemmas.Result.{err_from_is_err_and}
+use Rattle.definitions.specs.Fields.{Bytes}
+use Rattle.definitions.specs.declared.error.Error.{Error}
+use Rattle.definitions.specs.declared.error.Error.TheVariants.{KRB_ERR_GENERIC}
+use Rattle.definitions.specs.declared.ticket.Ticket.{Ticket}
+use Rattle.definitions.specs.Services.{Service, decision_of}
+use Rattle.definitions.proofs.Requests.{read-refuse}
+use Rattle.definitions.proofs.Checks.{ok_same}
+use Rattle.definitions.proofs.Answers.{unread}
 use Rattle.definitions.specs.AccountWords.{table_of}
 use Rattle.definitions.specs.LedgerWords.{tickets_of, next_number}
-use Rattle.definitions.specs.Decisions.{refuse}
-use Rattle.definitions.specs.declared.error.Answer.TheVariants.{Refused}
-use Rattle.definitions.specs.declared.error.Error.TheVariants.{KRB_ERR_GENERIC}
-use Rattle.definitions.specs.declared.request.Path.TheVariants.{Refuse}
-use Rattle.definitions.proofs.Services.{performed-refused}
-use Rattle.ledger.proofs.Lookups.{path-refused, path-decides}
+use Rattle.definitions.proofs.Services.{performed-refused, granting, performed-granted}
+use Rattle.ledger.proofs.Lookups.{granted-length}
 use Rattle.ledger.proofs.call.request.Goals as goal
 
-pub returns-in_default : goal.returns-in_default
-returns-in_default c =
+pub returns-in_default-clause-performed : goal.returns-in_default-clause-performed
+returns-in_default-clause-performed c =
     let a = c.args in
-    let p = c.request_path-path in
-    let e =
-    path-refused (table_of a.accounts.now) (tickets_of a.ledger.now) (next_number a.ledger.now) a.bytes.now a.clock (length a.output.now)
-    ∙ path-decides (table_of a.accounts.now) (tickets_of a.ledger.now) (next_number a.ledger.now) a.bytes.now a.clock (length a.output.now) Refuse (sym c.in_default.is ∙ p.ensures)
-    in
-    record {
-      performed = rw c.blank_ticket.ensures (performed-refused (record { accounts = a.accounts.now; ledger = a.ledger.now }) a.bytes.now a.clock a.output.now (refuse (Refused KRB_ERR_GENERIC)) e refl);
-      measured = refl;
-      bounded = omega arith;
-    }
+    let s : Service = record { accounts = a.accounts.now; ledger = a.ledger.now } in
+    performed-refused s a.bytes.now a.clock a.output.now KRB_ERR_GENERIC
+    (unread (table_of a.accounts.now) (tickets_of a.ledger.now) (next_number a.ledger.now) a.bytes.now a.clock (length a.output.now) KRB_ERR_GENERIC
+    (sym (read-refuse a.bytes.now (sym c.in_default.is ∙ c.request_path.ensures))))
 
-pub answer_on-requires : goal.answer_on-requires
-answer_on-requires c = sym c.in-Decide.is ∙ c.request_path-path.ensures
+pub decide_request-requires : goal.decide_request-requires
+decide_request-requires c = sym c.in-Some.is ∙ c.request_path.ensures
+
+pub returns-in_err-ticket-clause-performed : goal.returns-in_err-ticket-clause-performed
+returns-in_err-ticket-clause-performed c =
+    let a = c.args in
+    let s : Service = record { accounts = a.accounts.now; ledger = a.ledger.now } in
+    let p = err_from_is_err_and c.from_residual.result c.from_residual.ensures.1 in
+    let e = sym (rw c.of-held.ensures at c.decide_request.ensures) ∙ c.in_err-ticket.was in
+    rw (p.1, p.2) (performed-refused s a.bytes.now a.clock a.output.now c.in_err-ticket.field-0.0 (sym e))
+
+pub store_ticket-requires : goal.store_ticket-requires
+store_ticket-requires c =
+    let a = c.args in
+    let b : Bytes a.bytes.now = λ k. c.shared_slice_known-1.given k in
+    let e = sym (rw c.of-held.ensures at c.decide_request.ensures) ∙ c.in_ok-ticket.was in
+    let g = granting (record { accounts = a.accounts.now; ledger = a.ledger.now }) a.bytes.now a.clock (length a.output.now) c.in_ok-ticket.ticket b c.ranges.clock e in
+    (omega (arith, g.place), g.number)
+
+pub unwrap-length-requires : goal.unwrap-length-requires
+unwrap-length-requires c =
+    let a = c.args in
+    let b : Bytes a.bytes.now = λ k. c.shared_slice_known-1.given k in
+    let e = sym (rw c.of-held.ensures at c.decide_request.ensures) ∙ c.in_ok-ticket.was in
+    let q = granted-length (record { accounts = a.accounts.now; ledger = a.ledger.now }) a.bytes.now a.clock (length a.output.now) c.in_ok-ticket.ticket (sym e) b c.ranges.clock in
+    rw (c.write_ticket.ensures.answer ∙ q.0) refl
+
+pub returns-clause-performed : goal.returns-clause-performed
+returns-clause-performed c =
+    let a = c.args in
+    let b : Bytes a.bytes.now = λ k. c.shared_slice_known-1.given k in
+    let e = sym (rw c.of-held.ensures at c.decide_request.ensures) ∙ c.in_ok-ticket.was in
+    performed-granted (record { accounts = a.accounts.now; ledger = a.ledger.now }) a.bytes.now a.clock a.output.now b c.ranges.clock c.in_ok-ticket.ticket (sym e)
+    c.store_ticket.new.words c.write_ticket.new.out c.store_ticket.ensures c.write_ticket.ensures.output
+
+pub returns-clause-measured : goal.returns-clause-measured
+returns-clause-measured c =
+    let a = c.args in
+    let b : Bytes a.bytes.now = λ k. c.shared_slice_known-1.given k in
+    let e = sym (rw c.of-held.ensures at c.decide_request.ensures) ∙ c.in_ok-ticket.was in
+    let q = granted-length (record { accounts = a.accounts.now; ledger = a.ledger.now }) a.bytes.now a.clock (length a.output.now) c.in_ok-ticket.ticket (sym e) b c.ranges.clock in
+    ok_same (sym c.unwrap-length.ensures ∙ c.write_ticket.ensures.answer ∙ q.0)
+
+pub returns-clause-bounded : goal.returns-clause-bounded
+returns-clause-bounded c =
+    let a = c.args in
+    let b : Bytes a.bytes.now = λ k. c.shared_slice_known-1.given k in
+    let e = sym (rw c.of-held.ensures at c.decide_request.ensures) ∙ c.in_ok-ticket.was in
+    let q = granted-length (record { accounts = a.accounts.now; ledger = a.ledger.now }) a.bytes.now a.clock (length a.output.now) c.in_ok-ticket.ticket (sym e) b c.ranges.clock in
+    let n = ok_same (sym c.unwrap-length.ensures ∙ c.write_ticket.ensures.answer ∙ q.0) in
+    omega (arith, n, q.1)

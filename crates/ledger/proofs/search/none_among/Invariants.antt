@@ -1,11 +1,8 @@
-use Prim.Native.Nat.{◌+◌, ◌*◌, ◌-◌, ◌≤◌}
+use Prim.Native.Nat.{◌≤◌}
 use mathlib.Core.Path.{◌≡◌}
-use Rattle.ledger.specs.Lookups.{NoneHas}
+use Rattle.ledger.specs.Lookups.{NoneIn}
 use Rattle.ledger.proofs.search.none_among.Given as goal
 
-abbrev pub invariant-loop-i : goal.invariant-loop-i
-invariant-loop-i l =
-    (l.i ≤ l.from + l.n) × (l.marks ≤ 0x8000800080008000) × (l.marks ≡ 0x8000800080008000 → NoneHas l.words l.number (4 * l.from) (4 * l.i))
-
-abbrev pub decreases-loop-i : goal.decreases-loop-i
-decreases-loop-i l = l.from + l.n - l.i
+abbrev pub invariant-loop-word : goal.invariant-loop-word
+invariant-loop-word l =
+    (l.marks ≤ 0x8000800080008000) × (l.marks ≡ 0x8000800080008000 → NoneIn l.numbers l.number l.word-index)

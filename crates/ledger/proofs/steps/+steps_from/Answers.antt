@@ -1,51 +1,48 @@
 -- The ticket's number falls at each step.
-use mathlib.Core.Path.{refl, sym, ap, ◌∙◌}
-use Rattle.ledger.specs.Lookups.{first_held}
-use Rattle.ledger.proofs.Lookups.{not_there, is-there}
-use Rattle.ledger.specs.declared.steps.Standing.{Standing}
-use borrow.Author.Tests.{not-true, not-false}
+use mathlib.Core.Path.{sym, ap, ◌∙◌}
 use Rattle.definitions.specs.LedgerWords.{tickets_of}
 use Rattle.definitions.specs.Descent.{back_of, descent, descended}
-use Rattle.ledger.specs.BackSteps.{back_to, one_more}
 use Rattle.definitions.proofs.Descent.{steps-none, steps-here, steps_on, steps-stuck}
-use Rattle.ledger.proofs.BackSteps.{back-stop, back_to-some, more-one}
+use Rattle.ledger.proofs.Lookups.{origin-none, origin-some, given-none, given-some}
+use Rattle.std.proofs.lemmas.Result.{err_from_is_err_and}
+use Rattle.ledger.proofs.BackSteps.{more-refused, more-counted}
 use Rattle.ledger.proofs.steps.+steps_from.Goals as goal
-
-pub returns-then-not-at-clause-exact : goal.returns-then-not-at-clause-exact
-returns-then-not-at-clause-exact t c =
-    let l = tickets_of c.args.words.now in
-    let h = c.standing_at-at in
-    let f = not_there l c.args.number (first_held l c.args.number) refl (sym (ap (λ (s : Standing). s.found) h.ensures) ∙ not-true h.result.found c.if-not-at.true) in
-    sym (ap descended (steps-none l c.args.number f))
 
 pub returns-in_default-clause-exact : goal.returns-in_default-clause-exact
 returns-in_default-clause-exact t c =
-    let l = tickets_of c.args.words.now in
-    let h = c.standing_at-at in
-    let held = first_held l c.args.number in
-    let f = is-there l c.args.number held refl (sym (ap (λ (s : Standing). s.found) h.ensures) ∙ not-false h.result.found c.if-not-at.false) in
-    let g = back-stop (back_of held.ticket.origin) (sym c.in_default.is ∙ c.back_of-back.ensures ∙ ap (λ (s : Standing). back_to (back_of s.origin)) h.ensures) in
-    sym (ap descended (steps-here l c.args.number held.ticket f g))
+    let l = tickets_of c.args.held.words.now in
+    sym (ap descended (steps-none l c.args.number (origin-none l c.args.number (sym c.origin.ensures ∙ c.in_default.is))))
 
-pub returns-then-next-number-clause-exact : goal.returns-then-next-number-clause-exact
-returns-then-next-number-clause-exact t c =
-    let l = tickets_of c.args.words.now in
-    let h = c.standing_at-at in
-    let held = first_held l c.args.number in
-    let f = is-there l c.args.number held refl (sym (ap (λ (s : Standing). s.found) h.ensures) ∙ not-false h.result.found c.if-not-at.false) in
-    let n = c.in-To.next in
-    let g = back_to-some (back_of held.ticket.origin) n (sym c.in-To.is ∙ c.back_of-back.ensures ∙ ap (λ (s : Standing). back_to (back_of s.origin)) h.ensures) in
-    c.one_more.ensures
-    ∙ ap one_more c.steps_from.ensures.exact
-    ∙ more-one (descent l n)
-    ∙ sym (ap descended (steps_on l c.args.number held.ticket n f g c.if-next-number.true))
+pub returns-in_default-back_of-clause-exact : goal.returns-in_default-back_of-clause-exact
+returns-in_default-back_of-clause-exact t c =
+    let l = tickets_of c.args.held.words.now in
+    let f = origin-some l c.args.number c.in-Some.origin (sym c.origin.ensures ∙ c.in-Some.is) in
+    let g = given-none (back_of c.in-Some.origin) (sym c.back_of.ensures ∙ c.in_default-back_of.is) in
+    sym (ap descended (steps-here l c.args.number f.0 f.1 (ap back_of f.2 ∙ g)))
 
 pub returns-else-next-number-clause-exact : goal.returns-else-next-number-clause-exact
 returns-else-next-number-clause-exact t c =
-    let l = tickets_of c.args.words.now in
-    let h = c.standing_at-at in
-    let held = first_held l c.args.number in
-    let f = is-there l c.args.number held refl (sym (ap (λ (s : Standing). s.found) h.ensures) ∙ not-false h.result.found c.if-not-at.false) in
-    let n = c.in-To.next in
-    let g = back_to-some (back_of held.ticket.origin) n (sym c.in-To.is ∙ c.back_of-back.ensures ∙ ap (λ (s : Standing). back_to (back_of s.origin)) h.ensures) in
-    sym (ap descended (steps-stuck l c.args.number held.ticket n f g c.if-next-number.false))
+    let l = tickets_of c.args.held.words.now in
+    let f = origin-some l c.args.number c.in-Some.origin (sym c.origin.ensures ∙ c.in-Some.is) in
+    let n = c.in-Some-back_of.next in
+    let g = given-some (back_of c.in-Some.origin) n (sym c.back_of.ensures ∙ c.in-Some-back_of.is) in
+    sym (ap descended (steps-stuck l c.args.number f.0 n f.1 (ap back_of f.2 ∙ g) c.if-next-number.false))
+
+pub returns-in_err-steps_from-clause-exact : goal.returns-in_err-steps_from-clause-exact
+returns-in_err-steps_from-clause-exact t c =
+    let l = tickets_of c.args.held.words.now in
+    let f = origin-some l c.args.number c.in-Some.origin (sym c.origin.ensures ∙ c.in-Some.is) in
+    let n = c.in-Some-back_of.next in
+    let g = given-some (back_of c.in-Some.origin) n (sym c.back_of.ensures ∙ c.in-Some-back_of.is) in
+    let p = err_from_is_err_and c.from_residual.result c.from_residual.ensures.1 in
+    rw (p.1, p.2) (more-refused (descent l n) c.in_err-steps_from.field-0.0 (sym c.steps_from.ensures.exact ∙ c.in_err-steps_from.was)
+    ∙ sym (ap descended (steps_on l c.args.number f.0 n f.1 (ap back_of f.2 ∙ g) c.if-next-number.true)))
+
+pub returns-in_ok-steps_from-clause-exact : goal.returns-in_ok-steps_from-clause-exact
+returns-in_ok-steps_from-clause-exact t c =
+    let l = tickets_of c.args.held.words.now in
+    let f = origin-some l c.args.number c.in-Some.origin (sym c.origin.ensures ∙ c.in-Some.is) in
+    let n = c.in-Some-back_of.next in
+    let g = given-some (back_of c.in-Some.origin) n (sym c.back_of.ensures ∙ c.in-Some-back_of.is) in
+    more-counted (descent l n) c.in_ok-steps_from.field-0 (sym c.steps_from.ensures.exact ∙ c.in_ok-steps_from.was)
+    ∙ sym (ap descended (steps_on l c.args.number f.0 n f.1 (ap back_of f.2 ∙ g) c.if-next-number.true))

@@ -1,14 +1,8 @@
-use Prim.Native.Nat.{◌^◌}
-use native.Mathlib.Nat.{le_trans, mod-le}
 use native.Mathlib.Omega.{arith}
 use Rattle.definitions.specs.Limits.{number_bits}
 use Rattle.definitions.specs.Words.{lane_of}
-use Rattle.definitions.proofs.Words.{lane-least, set-shifted, set-fits}
+use Rattle.definitions.proofs.Words.{set-shifted, set-fits}
 use Rattle.ledger.proofs.words.with_number.Goals as goal
-
-pub overflow_sub-result : goal.overflow_sub-result
-unfolding lane_of
-overflow_sub-result c = le_trans (mod-le _ (2 ^ 64)) (lane-least number_bits c.args.word c.args.k)
 
 pub overflow_add-result : goal.overflow_add-result
 unfolding lane_of

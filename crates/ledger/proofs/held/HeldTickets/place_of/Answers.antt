@@ -1,0 +1,49 @@
+use mathlib.Core.Path.{◌≡◌, sym, ◌∙◌}
+use Prim.Native.Nat.{◌+◌, ◌*◌, ◌/◌, ◌-◌}
+use native.Mathlib.Nat.{zero-add}
+use native.Mathlib.Omega.{arith}
+use borrow.Rule.Slice.PartMut.{mid_of}
+use lib.ListN.{length, take, drop}
+use Rattle.std.proofs.lemmas.List.{length-take}
+use Rattle.ledger.proofs.Lookups.{none_more, none_in, none_before, lane-found, lane-none, part-at, first-at, first-none}
+use Rattle.ledger.proofs.held.HeldTickets.place_of.Goals as goal
+
+pub loop-k-init : goal.loop-k-init
+loop-k-init c =
+    let w = c.args.self.words.now in
+    let number = c.args.number in
+    let near = c.passed-near.result in
+    let m = c.passed.result in
+    let last = c.args.self.count / 4 in
+    let numbers = mid_of 8 (8 + last - 8) w in
+    let rest = take (length numbers - near) (drop near numbers) in
+    none_more w number 0 (4 * near) (4 * (near + m))
+    (rw zero-add at (none_in w number numbers 0 near (λ j l. let z : 8 + (0 + j) ≡ 8 + j = omega arith in rw z (part-at w 8 (8 + last - 8) j (omega (arith, c.passed-near.ensures.bounded)))) c.passed-near.ensures.passed))
+    (none_in w number rest near m
+    (λ j l. part-at numbers near (length numbers - near) j (omega (arith, c.passed.ensures.bounded))
+    ∙ part-at w 8 (8 + last - 8) (near + j) (omega (arith, c.passed.ensures.bounded, length-take (length numbers - near) (drop near numbers))))
+    c.passed.ensures.passed)
+
+pub returns-in-Some : goal.returns-in-Some
+returns-in-Some c =
+    let w = c.args.self.words.now in
+    let number = c.args.number in
+    let k = c.loop-k.k in
+    let lane = c.in-Some.lane in
+    let found = rw c.number_word.ensures at c.in-Some.ensures in
+    c.place.ensures
+    ∙ sym (first-at w number (4 * k + lane) (none_more w number 0 (4 * k) (4 * k + lane) c.loop-k.invariant (none_before w number k lane (omega (arith, found.0)) found.1)) (lane-found w number k lane found.0 found.2))
+
+pub loop-k-preserved : goal.loop-k-preserved
+loop-k-preserved c =
+    let w = c.args.self.words.now in
+    let number = c.args.number in
+    let k = c.loop-k.k in
+    let e : 4 * k + 4 ≡ 4 * (k + 1) = omega arith in
+    let none = lane-none c.number_word.result number c.lane_of.result c.in_default.is c.lane_of.ensures in
+    none_more w number 0 (4 * k) (4 * (k + 1)) c.loop-k.invariant (rw e at (none_before w number k 4 (omega arith) (rw c.number_word.ensures at none)))
+
+pub returns : goal.returns
+returns c =
+    let w = c.args.self.words.now in
+    sym (first-none w c.args.number (4 * c.loop-k.k) (omega (arith, c.args.self.counted)) c.loop-k.invariant)
