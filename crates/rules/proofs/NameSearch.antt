@@ -22,9 +22,9 @@ use Rattle.definitions.specs.Words.{lane_of, lane_at, pack_at}
 use Rattle.definitions.specs.Names.{name_of, good_name, good_bytes, folded, agree, same_name, matches, number_from, find_name, name_taken}
 use Rattle.definitions.specs.declared.account.Name.{Name}
 use Rattle.rules.specs.Lanes.{all_lanes}
-use Rattle.std.specs.List.{find, list_any, range_with_len}
-use Rattle.std.specs.Prelude.{Some, unwrap_or, ◌||◌}
-use Rattle.rules.specs.NameSearch.{words_of, bytes_of, words_agree, cut_word, has_name}
+use Rattle.std.specs.List.{find, range_with_len}
+use Rattle.std.specs.Prelude.{Option, Some, None, is_some, unwrap_or}
+use Rattle.rules.specs.NameSearch.{words_of, bytes_of, words_agree, cut_word, has_name, is_other, first_match}
 use Rattle.definitions.proofs.AccountWords.{row-of, row-set, row-unset, name-length, name-byte}
 use Rattle.definitions.proofs.Words.{pack-lane, lane-small, lanes-same}
 use Rattle.rules.proofs.Lanes.{and-lane, all-lane, all_past}
@@ -175,32 +175,32 @@ module _ (w : List ℕ) (n : ℕ) (f : Bool) (m : Name) where
 
 -- ---- The search
 -- the first row that matches, from a number on, is the account that a name stands for
-found_from : (w s : List ℕ) (i n : ℕ) → unwrap_or (find (λ k. matches (row_at w k) s) (range_with_len i n)) (i + n) ≡ number_from i (rows_from w i n) s
+found_from : (w s : List ℕ) (i n : ℕ) → unwrap_or (find (λ k. matches (row_at w k) s && is_other None k) (range_with_len i n)) (i + n) ≡ number_from i (rows_from w i n) s
 unfolding rows_from number_from
 found_from w s i zero = omega arith
-found_from w s i (suc n) = by (matches (row_at w i) s) (found_from w s (i + 1) n)
+found_from w s i (suc n) = by (matches (row_at w i) s) _ _ (found_from w s (i + 1) n)
   where
-    by : (p : Bool) → unwrap_or (find (λ k. matches (row_at w k) s) (range_with_len (i + 1) n)) (i + 1 + n) ≡ number_from (i + 1) (rows_from w (i + 1) n) s
-        → unwrap_or (cond p (Some i) (find (λ k. matches (row_at w k) s) (range_with_len (i + 1) n))) (i + suc n) ≡ cond p i (number_from (i + 1) (rows_from w (i + 1) n) s)
-    by true h = refl
-    by false h = let e : i + suc n ≡ i + 1 + n = omega arith in rw e h
+    by : (p : Bool) (r : Option ℕ) (m : ℕ) → unwrap_or r (i + 1 + n) ≡ m → unwrap_or (cond (p && true) (Some i) r) (i + suc n) ≡ cond p i m
+    by true r m h = refl
+    by false r m h = let e : i + suc n ≡ i + 1 + n = omega arith in rw e h
 
-pub find-rows : (w s : List ℕ) → unwrap_or (find (λ k. matches (row_at w k) s) (range_with_len 0 account_limit)) account_limit ≡ find_name (table_of w) s
-find-rows w s = found_from w s 0 account_limit
+pub first_found : (w s : List ℕ) → unwrap_or (first_match w s None) account_limit ≡ find_name (table_of w) s
+first_found w s = found_from w s 0 account_limit
 
--- some other row matches where another account has the name
-taken_from : (w s : List ℕ) (number i n : ℕ) → list_any (λ k. not (eqb k number) && matches (row_at w k) s) (range_with_len i n) ≡ name_taken number i (rows_from w i n) s
+-- another account has the name where some other row matches
+taken_from : (w s : List ℕ) (number i n : ℕ) → is_some (find (λ k. matches (row_at w k) s && is_other (Some number) k) (range_with_len i n)) ≡ name_taken number i (rows_from w i n) s
 unfolding rows_from name_taken
 taken_from w s number i zero = refl
-taken_from w s number i (suc n) = by (not (eqb i number) && matches (row_at w i) s) (taken_from w s number (i + 1) n)
+taken_from w s number i (suc n) = by (matches (row_at w i) s) (not (eqb i number)) _ _ (taken_from w s number (i + 1) n)
   where
-    by : (p : Bool) → list_any (λ k. not (eqb k number) && matches (row_at w k) s) (range_with_len (i + 1) n) ≡ name_taken number (i + 1) (rows_from w (i + 1) n) s
-        → (p || list_any (λ k. not (eqb k number) && matches (row_at w k) s) (range_with_len (i + 1) n)) ≡ cond p true (name_taken number (i + 1) (rows_from w (i + 1) n) s)
-    by true r = refl
-    by false r = r
+    by : (p q : Bool) (r : Option ℕ) (m : Bool) → is_some r ≡ m → is_some (cond (p && q) (Some i) r) ≡ cond (q && p) true m
+    by true true r m h = refl
+    by true false r m h = h
+    by false true r m h = h
+    by false false r m h = h
 
-pub any-rows : (w s : List ℕ) (number : ℕ) → list_any (λ k. not (eqb k number) && matches (row_at w k) s) (range_with_len 0 account_limit) ≡ name_taken number 0 (table_of w) s
-any-rows w s number = taken_from w s number 0 account_limit
+pub first_taken : (w s : List ℕ) (number : ℕ) → is_some (first_match w s (Some number)) ≡ name_taken number 0 (table_of w) s
+first_taken w s number = taken_from w s number 0 account_limit
 
 -- ---- The bytes of a packed name
 packed_byte : (s : List ℕ) (k : ℕ) → Bytes s → k < name_limit → lane_at byte_bits (words_of (name_of s)) 0 k ≡ get_or s k 0

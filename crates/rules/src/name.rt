@@ -3,7 +3,7 @@ ghost use Rattle.std.specs.Prelude.{◌≡◌, true, false, ◌<◌, ◌≤◌, 
 ghost use Rattle.definitions.specs.Limits.{account_limit};
 ghost use Rattle.definitions.specs.AccountWords.{row_start, row_word, row_at, name_at, set_length, table_of};
 ghost use Rattle.definitions.specs.Names.{agree, matches, find_name, name_taken};
-ghost use Rattle.rules.specs.NameSearch.{bytes_of, words_agree, first_bytes, cut_word};
+ghost use Rattle.rules.specs.NameSearch.{bytes_of, words_agree, first_bytes, cut_word, first_match};
 
 use crate::letters::words_match;
 use crate::words::{AccountWords, Row};
@@ -80,24 +80,25 @@ impl Row<'_> {
     }
 }
 
-// The lowest account that is set and matches a name.
-fn first_match(words: &AccountWords, name: SetName) -> Option<usize>
-    ensures exact { unwrap_or result account_limit ≡ find_name (table_of words.now) (bytes_of name.name) }
+// The lowest account, other than one that may be given, that is set and matches a name.
+fn first_match(words: &AccountWords, name: SetName, except: Option<usize>) -> Option<usize>
+    ensures exact { result ≡ first_match words.now (bytes_of name.name) except }
     ensures bounded { IfSome result (λ number. number < account_limit) }
 {
     (0..ACCOUNT_LIMIT).find(
         |&number|
             requires { number < account_limit }
-        { Row { words, number }.matches(name) },
+        { Row { words, number }.matches(name) && except != Some(number) },
     )
 }
 
 // The lowest account that is set and matches a name in words. A length that no name has is found nowhere.
+#[tactic(auto, using(crate::proofs::NameSearch::first_found))]
 pub(crate) fn find_packed(words: &AccountWords, name: Name) -> Option<usize>
     ensures exact { unwrap_or result account_limit ≡ find_name (table_of words.now) (bytes_of name) }
     ensures bounded { IfSome result (λ number. number < account_limit) }
 {
-    first_match(words, SetName::of(name)?)
+    first_match(words, SetName::of(name)?, None)
 }
 
 // The account that a name stands for, one past the last where it is unknown.
@@ -110,18 +111,9 @@ pub fn find_name(words: &AccountWords, bytes: &[u8]) -> usize
 }
 
 // Whether another account than a given one is set and matches a name.
+#[tactic(auto, using(crate::proofs::NameSearch::first_taken))]
 pub(crate) fn name_taken(words: &AccountWords, number: usize, name: SetName) -> bool
     ensures { result ≡ name_taken number 0 (table_of words.now) (bytes_of name.name) }
 {
-    (0..ACCOUNT_LIMIT).any(
-        |other|
-            requires { other < account_limit }
-        {
-            let row = Row {
-                words,
-                number: other,
-            };
-            other != number && row.matches(name)
-        },
-    )
+    first_match(words, name, Some(number)).is_some()
 }
