@@ -1,13 +1,15 @@
 -- Laws of saving and loading as the code goes along: words put one behind the other, the check sum behind them, and words read one by one.
 -- Assumes nothing.
-use mathlib.Core.Path.{◌≡◌, sym, ap₂, ◌∙◌}
-use mathlib.Core.List.{List, [], ◌∷◌, ◌++◌, append-nil}
-use Prim.Native.Nat.{ℕ, suc, ◌+◌, ◌*◌, ◌≤◌, ◌<◌}
-use native.Mathlib.Nat.{mul-le-mul, zero-add}
+use mathlib.Core.Path.{◌≡◌, refl, sym, ap, ap₂, ◌∙◌}
+use mathlib.Core.List.{List, [], ◌∷◌, ◌++◌, append-nil, append_assoc}
+use Prim.Native.Nat.{ℕ, zero, suc, ◌+◌, ◌*◌, ◌/◌, ◌%◌, ◌^◌, ◌≤◌, ◌<◌}
+use native.Mathlib.Nat.{mul-le-mul, zero-add, pow-suc, mul_comm, div-div-eq-div-mul}
+use Rattle.std.specs.Int.{w64, byte_at, bytes_high_first, to_be_bytes, from_be_bytes}
+use borrow.Rule.Slice.PartMut.{put_mid}
 use native.Mathlib.Numerals.{add-one}
 use native.Mathlib.Omega.{arith}
 use lib.ListN.{length, get_or, take, drop, set}
-use lib.Seq.{sets, sets-eq, take-suc-set, length-take-le}
+use lib.Seq.{sets, sets-eq, take-suc-set, length-take-le, get_or-take, get_or-drop, drop-drop}
 use borrow.Author.Tests.{le-leb, lt-leb}
 use mir.Syntax.{w8}
 use mir.Val.{Fits}
@@ -31,6 +33,39 @@ place-times i x h f =
     let l : i + 1 ≤ sum_place = omega arith in
     let m : x ≤ 255 = omega (arith, f) in
     mul-le-mul {n₂ = sum_place} {m₂ = 255} l m
+
+-- ---- Words as the library's bytes
+-- a byte higher of a number is that of the number's upper bytes
+higher-byte : (k n : ℕ) → byte_at (suc k) n ≡ byte_at k (n / 256)
+higher-byte zero n = refl
+higher-byte (suc k) n =
+    let power : 256 ^ suc (suc k) ≡ 256 * 256 ^ suc k = pow-suc 256 (suc k) ∙ mul_comm (256 ^ suc k) 256 in
+    ap (λ d. n / d % 256) power ∙ ap (λ x. x % 256) (sym (div-div-eq-div-mul n 256 (256 ^ suc k)))
+
+last-byte : (k n : ℕ) → bytes_high_first (suc k) n ≡ bytes_high_first k (n / 256) ++ (n % 256 ∷ [])
+last-byte zero n = refl
+last-byte (suc k) n = rw (higher-byte k n, last-byte k n)
+
+high_first : (k n : ℕ) → bytes_high_first k n ≡ big_endian k n
+unfolding big_endian
+high_first zero n = refl
+high_first (suc k) n = last-byte k n ∙ rw (high_first k (n / 256))
+
+-- a word is put where its bytes are copied
+pub put_bytes : (l bytes : List ℕ) (at size word : ℕ) → at + word_size ≤ length l → size ≡ word_size → bytes ≡ to_be_bytes w64 word
+    → put_mid at size l bytes ≡ sets l at (big_endian word_size word)
+put_bytes l bytes at size word h e f =
+    let same : bytes ≡ big_endian word_size word = f ∙ high_first word_size word in
+    let room : at + length (big_endian word_size word) ≤ length l = rw (length-big_endian word_size word) h in
+    rw (same, e) (sym (sets-eq (big_endian word_size word) l at room ∙ rw (length-big_endian word_size word, drop-drop, append_assoc)))
+
+-- a word is read from the bytes that stand there
+pub read_bytes : (s : List ℕ) (at : ℕ) → from_be_bytes w64 (take word_size (drop at s)) ≡ number_at s at word_size
+unfolding number_at
+read_bytes s at =
+    let e : (k : ℕ) → k < word_size → get_or (take word_size (drop at s)) k 0 ≡ get_or s (at + k) 0 =
+    λ k l. get_or-take word_size (drop at s) k 0 l ∙ get_or-drop at s k 0 in
+    rw (e 0 (omega arith), e 1 (omega arith), e 2 (omega arith), e 3 (omega arith), e 4 (omega arith), e 5 (omega arith), e 6 (omega arith), e 7 (omega arith)) (omega arith)
 
 -- ---- Putting
 -- a word behind those that were put

@@ -8,42 +8,13 @@ ghost use Rattle.definitions.specs.Saving.{word_bytes, byte_sum, place_sum, save
 use definitions::{
     ACCOUNTS_PLACE, LAYOUT, LAYOUT_PLACE, LEDGER_PLACE, MAGIC, SAVED_SIZE, SUM_PLACE, WORD_SIZE,
 };
-use record::both;
-
-// The two halves of a check sum.
-#[derive(Clone, Copy)]
-pub(crate) struct Sums {
-    pub first: u64,
-    pub second: u64,
-}
-
-// The check sum of the bytes before its place.
-fn sums_of(bytes: &[u8]) -> Sums
-    requires { sum_place ≤ length bytes.now }
-    ensures { result ≡ record { first = byte_sum bytes.now sum_place; second = place_sum bytes.now sum_place } }
-{
-    let mut first: u64 = 0;
-    let mut second: u64 = 0;
-    for i in 0..SUM_PLACE {
-        let byte = bytes[i] as u64;
-        first += byte;
-        second += (i as u64 + 1) * byte;
-    }
-    Sums { first, second }
-}
 
 // Puts a word, big-endian.
 fn put_word(out: &mut [u8], at: usize, word: u64)
     requires { at + word_size ≤ length out.old }
     ensures { out.new ≡ sets out.old at (big_endian word_size word) }
 {
-    let mut i = WORD_SIZE;
-    let mut rest = word;
-    while 0 < i {
-        i -= 1;
-        out[at + i] = (rest % 256) as u8;
-        rest = rest / 256;
-    }
+    out[at..at + WORD_SIZE].copy_from_slice(&word.to_be_bytes());
 }
 
 // Puts words one behind the other.
@@ -51,8 +22,61 @@ fn put_words(out: &mut [u8], at: usize, words: &[u64])
     requires { at + word_size * length words.now ≤ length out.old }
     ensures { out.new ≡ sets out.old at (word_bytes words.now) }
 {
-    for i in 0..words.len() {
-        put_word(out, at + WORD_SIZE * i, words[i]);
+    for (i, word) in words.iter().enumerate() {
+        put_word(out, at + WORD_SIZE * i, *word);
+    }
+}
+
+// The word at a position.
+fn word_at(bytes: &[u8], at: usize) -> u64
+    requires { at + word_size ≤ length bytes.now }
+    ensures { result ≡ number_at bytes.now at word_size }
+{
+    u64::from_be_bytes(*bytes[at..].first_chunk().unwrap())
+}
+
+// Loads all words from a position on.
+pub(crate) fn load_words(words: &mut [u64], saved: &[u8], at: usize)
+    requires { at + word_size * length words.old ≤ length saved.now }
+    ensures { words.new ≡ words_at saved.now at (length words.old) }
+{
+    for (i, word) in words.iter_mut().enumerate() {
+        *word = word_at(saved, at + WORD_SIZE * i);
+    }
+}
+
+// The two halves of a check sum.
+#[derive(Clone, Copy, PartialEq, Eq)]
+struct Sums {
+    first: u64,
+    second: u64,
+}
+
+impl Sums {
+    // The check sum of the bytes before its place.
+    fn of(bytes: &[u8]) -> Self
+        requires { sum_place ≤ length bytes.now }
+        ensures { result ≡ record { first = byte_sum bytes.now sum_place; second = place_sum bytes.now sum_place } }
+    {
+        let mut first = 0;
+        let mut second = 0;
+        for (i, byte) in bytes[..SUM_PLACE].iter().enumerate() {
+            let byte = u64::from(*byte);
+            first += byte;
+            second += (i as u64 + 1) * byte;
+        }
+        Sums { first, second }
+    }
+
+    // The check sum that stands at its place.
+    fn read(saved: &[u8]) -> Self
+        requires { saved_size ≤ length saved.now }
+        ensures { result ≡ record { first = number_at saved.now sum_place word_size; second = number_at saved.now (sum_place + word_size) word_size } }
+    {
+        Sums {
+            first: word_at(saved, SUM_PLACE),
+            second: word_at(saved, SUM_PLACE + WORD_SIZE),
+        }
     }
 }
 
@@ -80,44 +104,18 @@ pub(crate) fn put_sums(out: &mut [u8])
     requires { saved_size ≤ length out.old }
     ensures { out.new ≡ sets out.old sum_place (word_bytes (byte_sum out.old sum_place ∷ place_sum out.old sum_place ∷ [])) }
 {
-    let sums = sums_of(out);
+    let sums = Sums::of(out);
     put_word(out, SUM_PLACE, sums.first);
     put_word(out, SUM_PLACE + WORD_SIZE, sums.second);
 }
 
-// The word at a position.
-fn word_at(bytes: &[u8], at: usize) -> u64
-    requires { at + word_size ≤ length bytes.now }
-    ensures { result ≡ number_at bytes.now at word_size }
-{
-    let mut word: u64 = 0;
-    for i in 0..WORD_SIZE {
-        word = word * 256 + bytes[at + i] as u64;
-    }
-    word
-}
-
 // Whether the bytes are those of a service.
+#[tactic(auto, unfolding(definitions::specs::Saving::loadable))]
 pub(crate) fn is_loadable(saved: &[u8]) -> bool
     ensures { result ≡ loadable saved.now }
 {
-    if saved.len() != SAVED_SIZE {
-        return false;
-    }
-    let sums = sums_of(saved);
-    let same_first = word_at(saved, SUM_PLACE) == sums.first;
-    let same_second = word_at(saved, SUM_PLACE + WORD_SIZE) == sums.second;
-    let same_layout = word_at(saved, LAYOUT_PLACE) == LAYOUT;
-    let same_magic = word_at(saved, 0) == MAGIC;
-    both(same_magic, both(same_layout, both(same_first, same_second)))
-}
-
-// Loads all words from a position on.
-pub(crate) fn load_words(words: &mut [u64], saved: &[u8], at: usize)
-    requires { at + word_size * length words.old ≤ length saved.now }
-    ensures { words.new ≡ words_at saved.now at (length words.old) }
-{
-    for i in 0..words.len() {
-        words[i] = word_at(saved, at + WORD_SIZE * i);
-    }
+    saved.len() == SAVED_SIZE
+        && word_at(saved, 0) == MAGIC
+        && word_at(saved, LAYOUT_PLACE) == LAYOUT
+        && Sums::read(saved) == Sums::of(saved)
 }

@@ -2,30 +2,24 @@ use mathlib.Core.Path.{◌≡◌, refl, ◌∙◌}
 use native.Mathlib.Omega.{arith}
 use native.Mathlib.Numerals.{add-one}
 use lib.ListN.{length}
-use lib.Seq.{take-length, length-sets}
+use lib.Seq.{take-length}
 use Rattle.definitions.specs.Saving.{word_bytes}
 use Rattle.tickets.proofs.SavedBytes.{put_next}
-use borrow.Author.Rules.{rules}
 use Rattle.tickets.proofs.saving.put_words.Goals as goal
 
 pub loop-i-init : goal.loop-i-init
 unfolding word_bytes
-loop-i-init c = (search rules, refl, refl, refl)
+loop-i-init c = refl
 
 pub loop-i-preserved : goal.loop-i-preserved
 loop-i-preserved c =
     let l = c.loop-i in
     let a = c.args in
-    rw add-one (
-      search rules,
-      l.invariant.1,
-      rw c.put_word.ensures (simp length-sets l.invariant.2),
-      c.put_word.ensures ∙ rw l.invariant.3 (put_next a.out.now a.words.now a.at l.i (search rules)),
-    )
+    rw add-one (c.put_word.ensures ∙ rw l.invariant (put_next a.out.now a.words.now a.at l.i (omega arith)))
 
 pub returns : goal.returns
 returns c =
     let l = c.loop-i in
     let w = c.args.words.now in
     let e : l.i ≡ length w = omega arith in
-    l.invariant.3 ∙ rw (e, take-length w)
+    l.invariant ∙ rw (e, take-length w)
