@@ -9,7 +9,9 @@ use mathlib.Core.Bool.{Bool, true, false, cond}
 use mathlib.Core.List.{List, []}
 use lib.ListN.{length}
 use lib.Dec.{leb}
+use mir.Val.{bool_byte}
 use Rattle.definitions.specs.Limits.{longest_record, trail_limit, two32}
+use Rattle.definitions.specs.ReadBack.{as_number}
 use Rattle.definitions.specs.Errors.{answer_number}
 use Rattle.definitions.specs.Fields.{Bytes}
 use Rattle.definitions.specs.TicketRecords.{blank_ticket, well_formed, map_of_ticket, record_of, read_ticket, accepted}
@@ -31,6 +33,11 @@ use Rattle.definitions.specs.Answers.{edit as an-edit, request as a-request, cle
 use Rattle.definitions.specs.Services.{Service, Outcome, perform}
 use Rattle.tickets.specs.declared.TicketsAnswer.{TicketsAnswer}
 use Rattle.tickets.specs.Calls.{EditCall, RequestCall, ClearCall, answer_in, request_answer}
+
+-- a truth value as a number
+pub flag_number : (it : Bool) → bool_byte it ≡ as_number it
+flag_number true = refl
+flag_number false = refl
 
 never : (P : Type 0) (e : Error) (n : ℕ) → Unwritten e ≡ Length n → P
 never P e n h = let z : ◌≡◌ {A = ℕ} 0 1 = cc in absurd (omega arith)

@@ -11,7 +11,7 @@ ghost use Rattle.definitions.specs.Errors.{answer_number};
 ghost use Rattle.definitions.specs.TicketRecords.{read_ticket};
 ghost use Rattle.definitions.specs.Requests.{read_request, kind_number};
 ghost use Rattle.definitions.specs.RequestWriting.{request_parts, request_written, request_output};
-ghost use Rattle.definitions.specs.ReadBack.{as_number, origin_kind, ticket_fields};
+ghost use Rattle.definitions.specs.ReadBack.{origin_kind, ticket_fields};
 ghost use Rattle.definitions.specs.AccountWords.{table_of};
 ghost use Rattle.definitions.specs.Names.{words_match, find_name};
 ghost use Rattle.definitions.specs.Edits.{edit_of};
@@ -114,27 +114,22 @@ fn kind_number(kind: Kind) -> u64
     }
 }
 
-// Puts the ten numbers of a request.
-fn put_request(fields: &mut RequestFields, request: Request)
-    ensures { fields.new ≡ request_fields request }
+// The ten numbers of a request.
+fn request_fields(request: Request) -> RequestFields
+    ensures { result ≡ request_fields request }
 {
-    let kind = request.kind;
-    let tgt = request.tgt;
-    let evidence = request.evidence;
-    let user = request.user;
-    let service = request.service;
-    *fields = [
-        kind_number(kind),
-        request.options as u64,
-        request.pac_options as u64,
-        request.till as u64,
-        tgt.number as u64,
-        evidence.number as u64,
-        user.at as u64,
-        user.len as u64,
-        service.at as u64,
-        service.len as u64,
-    ];
+    [
+        kind_number(request.kind),
+        u64::from(request.options),
+        u64::from(request.pac_options),
+        u64::from(request.till),
+        u64::from(request.tgt.number),
+        u64::from(request.evidence.number),
+        request.user.at as u64,
+        request.user.len as u64,
+        request.service.at as u64,
+        request.service.len as u64,
+    ]
 }
 
 // Reads a request: its ten numbers, or 60.
@@ -147,7 +142,7 @@ pub extern "C" fn tickets_read_request(bytes: &[u8], fields: &mut RequestFields)
     let answer = reading.answer;
     match answer {
         Answer::Accepted => {
-            put_request(fields, reading.request);
+            *fields = request_fields(reading.request);
             0
         }
         Answer::Refused(error) => record::error_number(error),
@@ -190,7 +185,7 @@ pub extern "C" fn tickets_write_request(
 pub extern "C" fn tickets_words_match(a: u64, b: u64) -> u32
     ensures { result ≡ match_number (words_match a b) }
 {
-    if rules::words_match(a, b) { 1 } else { 0 }
+    u32::from(rules::words_match(a, b))
 }
 
 // ---- The service's calls.
@@ -291,13 +286,6 @@ pub type AccountFields = [u64; 6];
 // The numbers of a ticket: those of its record by map bit, with 1 for the barred mark; the kind that made it; the eight places of its trail.
 pub type TicketFields = [u64; 19];
 
-// 1 where it is so, else 0.
-fn as_number(it: bool) -> u64
-    ensures { result ≡ as_number it }
-{
-    if it { 1 } else { 0 }
-}
-
 // An account: its numbers and its name, or 60.
 #[unsafe(no_mangle)]
 pub extern "C" fn tickets_account(
@@ -317,11 +305,11 @@ pub extern "C" fn tickets_account(
     let account = rules::account_at(accounts, n);
     let length = rules::read_name(accounts, n, name);
     *fields = [
-        as_number(account.known),
-        (account.flags % 16) as u64,
+        u64::from(account.known),
+        u64::from(account.flags % 16),
         account.send,
         account.receive,
-        account.lifetime as u64,
+        u64::from(account.lifetime),
         length as u64,
     ];
     0
@@ -365,40 +353,32 @@ fn origin_kind(origin: Origin) -> u64
     }
 }
 
-// A byte as a word.
-fn wide(byte: u8) -> u64
-    ensures { result ≡ byte }
+// The numbers of a ticket.
+fn ticket_fields(ticket: Ticket) -> TicketFields
+    ensures { result ≡ ticket_fields ticket }
 {
-    byte as u64
-}
-
-// Puts the numbers of a ticket.
-fn put_ticket(fields: &mut TicketFields, ticket: Ticket)
-    ensures { fields.new ≡ ticket_fields ticket }
-{
-    let origin = ticket.origin;
-    let trail = ticket.trail;
-    *fields = [
-        ticket.number as u64,
-        ticket.flags as u64,
-        ticket.client as u64,
-        ticket.service as u64,
-        ticket.window.start as u64,
-        ticket.window.end as u64,
-        record::tgt_of(origin) as u64,
-        record::evidence_of(origin) as u64,
-        ticket.hops as u64,
-        as_number(ticket.barred),
-        origin_kind(origin),
-        wide(trail[0]),
-        wide(trail[1]),
-        wide(trail[2]),
-        wide(trail[3]),
-        wide(trail[4]),
-        wide(trail[5]),
-        wide(trail[6]),
-        wide(trail[7]),
-    ];
+    let trail = ticket.trail.map(u64::from);
+    [
+        u64::from(ticket.number),
+        u64::from(ticket.flags),
+        u64::from(ticket.client),
+        u64::from(ticket.service),
+        u64::from(ticket.window.start),
+        u64::from(ticket.window.end),
+        u64::from(record::tgt_of(ticket.origin)),
+        u64::from(record::evidence_of(ticket.origin)),
+        u64::from(ticket.hops),
+        u64::from(ticket.barred),
+        origin_kind(ticket.origin),
+        trail[0],
+        trail[1],
+        trail[2],
+        trail[3],
+        trail[4],
+        trail[5],
+        trail[6],
+        trail[7],
+    ]
 }
 
 // The numbers of the ticket at a place, or 41.
@@ -415,7 +395,7 @@ pub extern "C" fn tickets_ticket_at(
     if !held.found {
         return record::error_number(Error::KRB_AP_ERR_MODIFIED);
     }
-    put_ticket(fields, held.ticket);
+    *fields = ticket_fields(held.ticket);
     0
 }
 

@@ -1,6 +1,7 @@
 use native.Mathlib.Omega.{arith}
 use borrow.Author.Tests.{lt-leb, le-leb}
 use Rattle.definitions.specs.Limits.{last_account}
+use Rattle.tickets.proofs.Calls.{flag_number}
 use Rattle.tickets.proofs.tickets_account.Goals as goal
 
 pub returns-then-number-gt-LAST_ACCOUNT : goal.returns-then-number-gt-LAST_ACCOUNT
@@ -16,6 +17,6 @@ returns c =
     let h = le-leb c.args.number last_account (omega arith) in
     let named = c.read_name-length in record {
       answer = rw h;
-      fields = rw (h, c.as_number.ensures, c.account_at-account.ensures, named.ensures.length);
+      fields = rw (h, c.from.ensures, flag_number, c.from-2.ensures, c.from-3.ensures, c.account_at-account.ensures, named.ensures.length);
       name = rw h named.ensures.name;
     }

@@ -5,7 +5,7 @@ returns-in-Accepted c =
     let r = c.read_request-reading in
     let told = c.in-Accepted.is in record {
       answer = rw (← r.ensures, told);
-      fields = rw (← r.ensures, told) c.put_request.ensures;
+      fields = rw (← r.ensures, told) c.request_fields.ensures;
     }
 
 pub returns-in-Refused : goal.returns-in-Refused

@@ -20,5 +20,5 @@ returns c =
     let held = c.held_at-held in
     let l = held-listed a.ledger.now a.place (sym (ap (λ (x : Held). x.found) held.ensures) ∙ not-false held.result.found c.if-not-held.false) in record {
       answer = rw l.0;
-      fields = rw l.0 (c.put_ticket.ensures ∙ ap (λ (x : Held). ticket_fields x.ticket) held.ensures ∙ ap ticket_fields l.1);
+      fields = rw l.0 (c.ticket_fields.ensures ∙ ap (λ (x : Held). ticket_fields x.ticket) held.ensures ∙ ap ticket_fields l.1);
     }
