@@ -41,12 +41,13 @@ impl<'a> HeldTickets<'a> {
         }
     }
 
-    // The first place whose ticket has a number: by 64 places, by 16, and then word by word.
+    // The first place whose ticket has a number: by 64 places, by 16, and then word by word, as the last word always is.
     fn place_of(self, number: u16) -> Option<Place>
         ensures { option_map (λ place. ticket_at self.entry.words.now place.index) result ≡ first_held (tickets_of self.entry.words.now) number }
     {
+        let last = self.count.saturating_sub(1) / NUMBERS_IN_WORD;
         let words = self.words;
-        let numbers = &words[NUMBERS_START..NUMBERS_START + self.count / NUMBERS_IN_WORD];
+        let numbers = &words[NUMBERS_START..NUMBERS_START + last];
         let near = passed::<16>(numbers, number);
         let next = near + passed::<4>(&numbers[near..], number);
         for k in next..self.count.div_ceil(NUMBERS_IN_WORD) {

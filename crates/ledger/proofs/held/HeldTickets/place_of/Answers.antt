@@ -14,7 +14,7 @@ loop-k-init c =
     let number = c.args.number in
     let near = c.passed-near.result in
     let m = c.passed.result in
-    let last = c.args.self.count / 4 in
+    let last = c.saturating_sub-last.result / 4 in
     let numbers = mid_of 8 (8 + last - 8) w in
     let rest = take (length numbers - near) (drop near numbers) in
     none_more w number 0 (4 * near) (4 * (near + m))
