@@ -5,8 +5,8 @@
 
 mod saving;
 
-ghost use Rattle.std.specs.Prelude.{◌≡◌, ℕ, ◌≤◌, ◌<◌, length};
-ghost use Rattle.definitions.specs.Limits.{longest_record, two32, layout_number};
+ghost use Rattle.std.specs.Prelude.{◌≡◌, ◌<◌, length, IfOk};
+ghost use Rattle.definitions.specs.Limits.{two32, layout_number};
 ghost use Rattle.definitions.specs.Errors.{answer_number};
 ghost use Rattle.definitions.specs.TicketRecords.{read_ticket};
 ghost use Rattle.definitions.specs.Requests.{read_request, kind_number};
@@ -20,13 +20,14 @@ ghost use Rattle.definitions.specs.Totals.{day_total};
 ghost use Rattle.definitions.specs.Descent.{descent, descended};
 ghost use Rattle.definitions.specs.Services.{fresh_service};
 ghost use Rattle.definitions.specs.Saving.{save_answer, save_output, load_answer, load_service};
-ghost use Rattle.tickets.specs.Calls.{library_version, error_answer, written_answer, rewrite_answer, rewrite_output, match_number, request_fields, fields_after, account_answer, account_fields_after, account_name_after, record_at_answer, record_at_output, ticket_at_answer, ticket_at_fields, EditCall, RequestCall, ClearCall, descent_answer};
+ghost use Rattle.tickets.specs.Calls.{library_version, value_answer, rewrite_answer, rewrite_output, match_number, request_fields, fields_after, account_answer, account_fields_after, account_name_after, record_at_answer, record_at_output, ticket_at_answer, ticket_at_fields, EditCall, RequestCall, ClearCall};
 
 use definitions::{
-    ACCOUNTS_PLACE, Answer, Descended, Error, Kind, LAST_ACCOUNT, LAYOUT, LEDGER_PLACE, Origin,
-    Request, SAVED_SIZE, Ticket, Written,
+    ACCOUNTS_PLACE, Error, Kind, LAST_ACCOUNT, LAYOUT, LEDGER_PLACE, Origin, Request, SAVED_SIZE,
+    Settings, Ticket,
 };
 use ledger::LedgerWords;
+use record::Draft;
 use rules::{AccountWords, NameBytes};
 use saving::{is_loadable, load_words, put_body, put_sums};
 
@@ -53,64 +54,39 @@ pub extern "C" fn tickets_version() -> u32
 // length, where the service's name lies and its length.
 pub type RequestFields = [u64; 10];
 
-// The answer of a refusal.
-fn error_answer(error: Error) -> TicketsAnswer
-    ensures { result ≡ error_answer error }
-{
-    TicketsAnswer {
-        error: record::error_number(error),
-        value: 0,
+// The answer of what gives a number of 32 bits: no error and the number, or a refusal's number and 0.
+impl From<Result<u32, Error>> for TicketsAnswer {
+    ghost from_gives = { λ number answer. answer ≡ value_answer number };
+
+    fn from(number: Result<u32, Error>) -> TicketsAnswer {
+        match number {
+            Ok(value) => TicketsAnswer { error: 0, value },
+            Err(error) => TicketsAnswer {
+                error: u32::from(error),
+                value: 0,
+            },
+        }
     }
 }
 
-// The answer of a writer whose lengths are of 32 bits.
-fn length_answer(written: Written) -> TicketsAnswer
-    requires { (n : ℕ) → written ≡ Written.Length n → n < two32 }
-    ensures { result ≡ written_answer written }
+// The answer of what gives a length, which 32 bits hold.
+fn value_answer(number: Result<usize, Error>) -> TicketsAnswer
+    requires { IfOk number (λ value. value < two32) }
+    ensures { result ≡ value_answer number }
 {
-    match written {
-        Written::Length(length) => TicketsAnswer {
-            error: 0,
-            value: length as u32,
-        },
-        Written::Refused(error) => error_answer(error),
-    }
-}
-
-// The answer of the writer of records.
-fn written_answer(written: Written) -> TicketsAnswer
-    requires { (n : ℕ) → written ≡ Written.Length n → n ≤ longest_record }
-    ensures { result ≡ written_answer written }
-{
-    length_answer(written)
+    TicketsAnswer::from(number.map(|value| value as u32))
 }
 
 // Reads a ticket record, and writes it to the output's start: 60 where the reader refuses, else what the writer answers.
+#[tactic(auto, using(crate::proofs::Calls::read_fits))]
 #[unsafe(no_mangle)]
 pub extern "C" fn tickets_rewrite(bytes: &[u8], output: &mut [u8]) -> TicketsAnswer
     ensures answer { result ≡ rewrite_answer (read_ticket bytes.now) (length output.old) }
     ensures output { output.new ≡ rewrite_output (read_ticket bytes.now) output.old }
 {
-    let reading = record::read_ticket(bytes);
-    let answer = reading.answer;
-    match answer {
-        Answer::Accepted => {
-            let ticket = reading.ticket;
-            written_answer(record::write_ticket(ticket, output))
-        }
-        Answer::Refused(error) => error_answer(error),
-    }
-}
-
-// The number of a kind.
-fn kind_number(kind: Kind) -> u64
-    ensures { result ≡ kind_number kind }
-{
-    match kind {
-        Kind::Initial => 1,
-        Kind::Direct => 2,
-        Kind::S4U2self => 3,
-        Kind::S4U2proxy => 4,
+    match record::read_ticket(bytes) {
+        Ok(ticket) => value_answer(record::write_ticket(ticket, output)),
+        Err(error) => TicketsAnswer::from(Err(error)),
     }
 }
 
@@ -119,7 +95,7 @@ fn request_fields(request: Request) -> RequestFields
     ensures { result ≡ request_fields request }
 {
     [
-        kind_number(request.kind),
+        u64::from(u8::from(request.kind)),
         u64::from(request.options),
         u64::from(request.pac_options),
         u64::from(request.till),
@@ -135,21 +111,20 @@ fn request_fields(request: Request) -> RequestFields
 // Reads a request: its ten numbers, or 60.
 #[unsafe(no_mangle)]
 pub extern "C" fn tickets_read_request(bytes: &[u8], fields: &mut RequestFields) -> u32
-    ensures answer { result ≡ answer_number (read_request bytes.now).answer }
+    ensures answer { result ≡ answer_number (read_request bytes.now) }
     ensures fields { fields.new ≡ fields_after (read_request bytes.now) fields.old }
 {
-    let reading = record::read_request(bytes);
-    let answer = reading.answer;
-    match answer {
-        Answer::Accepted => {
-            *fields = request_fields(reading.request);
+    match record::read_request(bytes) {
+        Ok(request) => {
+            *fields = request_fields(request);
             0
         }
-        Answer::Refused(error) => record::error_number(error),
+        Err(error) => u32::from(error),
     }
 }
 
 // Writes the request of these parts to the output's start: its length, 60 where no readable request has them, then 52.
+#[tactic(auto, using(crate::proofs::Calls::request_fits))]
 #[unsafe(no_mangle)]
 pub extern "C" fn tickets_write_request(
     kind: u32,
@@ -163,10 +138,10 @@ pub extern "C" fn tickets_write_request(
     fields: u32,
     output: &mut [u8],
 ) -> TicketsAnswer
-    ensures answer { result ≡ written_answer (request_written (request_parts kind options pac_options till tgt.now evidence.now user.now service.now fields) (length output.old)) }
+    ensures answer { result ≡ value_answer (request_written (request_parts kind options pac_options till tgt.now evidence.now user.now service.now fields) (length output.old)) }
     ensures output { output.new ≡ request_output (request_parts kind options pac_options till tgt.now evidence.now user.now service.now fields) output.old }
 {
-    length_answer(record::write_request(
+    let draft = Draft {
         kind,
         options,
         pac_options,
@@ -176,8 +151,8 @@ pub extern "C" fn tickets_write_request(
         user,
         service,
         fields,
-        output,
-    ))
+    };
+    value_answer(record::write_request(draft, output))
 }
 
 // Whether all eight pairs of bytes of two words match: 1, or 0.
@@ -211,7 +186,13 @@ pub extern "C" fn tickets_edit(
 ) -> u32
     ensures { EditCall accounts.old (edit_of number name.now flags send receive lifetime) result accounts.new }
 {
-    record::answer_number(ledger::edit(accounts, number, name, flags, send, receive, lifetime))
+    let settings = Settings {
+        flags,
+        send,
+        receive,
+        lifetime,
+    };
+    record::answer_number(ledger::edit(accounts, number, name, settings))
 }
 
 // The number of the account that a name stands for, 64 where it is unknown.
@@ -233,15 +214,8 @@ pub extern "C" fn tickets_request(
 ) -> TicketsAnswer
     ensures { RequestCall (record { accounts = accounts.old; ledger = ledger.old }) request.now clock output.old result output.new (record { accounts = accounts.new; ledger = ledger.new }) }
 {
-    let reply = ledger::request(accounts, ledger, request, clock, output);
-    let answer = reply.answer;
-    match answer {
-        Answer::Accepted => TicketsAnswer {
-            error: 0,
-            value: reply.length as u32,
-        },
-        Answer::Refused(error) => error_answer(error),
-    }
+    let granted = ledger::request(accounts, ledger, request, clock, output);
+    value_answer(granted.map(|grant| grant.length))
 }
 
 // Clears out the tickets that have ended at a clock reading: how many it took out. The accounts stay.
@@ -259,15 +233,9 @@ pub extern "C" fn tickets_clear(
 // The steps from the ticket of a number to its initial ticket, or 41.
 #[unsafe(no_mangle)]
 pub extern "C" fn tickets_descent(ledger: &LedgerWords, number: u32) -> TicketsAnswer
-    ensures { result ≡ descent_answer (descended (descent (tickets_of ledger.now) number)) }
+    ensures { result ≡ value_answer (descended (descent (tickets_of ledger.now) number)) }
 {
-    match ledger::descent(ledger, number) {
-        Descended::Steps(steps) => TicketsAnswer {
-            error: 0,
-            value: steps,
-        },
-        Descended::Refused(error) => error_answer(error),
-    }
+    TicketsAnswer::from(ledger::descent(ledger, number))
 }
 
 // The day total, in seconds.
@@ -299,7 +267,7 @@ pub extern "C" fn tickets_account(
     ensures name { name.new ≡ account_name_after (table_of accounts.now) number name.old }
 {
     if LAST_ACCOUNT < number {
-        return record::error_number(Error::KRB_ERR_GENERIC);
+        return u32::from(Error::KRB_ERR_GENERIC);
     }
     let n = number as usize;
     let account = rules::account_at(accounts, n);
@@ -333,23 +301,21 @@ pub extern "C" fn tickets_record_at(
     ensures answer { result ≡ record_at_answer (tickets_of ledger.now) place (length output.old) }
     ensures output { output.new ≡ record_at_output (tickets_of ledger.now) place output.old }
 {
-    let held = ledger::held_at(ledger, place as usize);
-    if !held.found {
-        return error_answer(Error::KRB_AP_ERR_MODIFIED);
-    }
-    let ticket = held.ticket;
-    written_answer(record::write_ticket(ticket, output))
+    let Some(ticket) = ledger::held_at(ledger, place as usize) else {
+        return TicketsAnswer::from(Err(Error::KRB_AP_ERR_MODIFIED));
+    };
+    value_answer(record::write_ticket(ticket, output))
 }
 
 // The kind of request that makes a ticket of an origin.
-fn origin_kind(origin: Origin) -> u64
-    ensures { result ≡ origin_kind origin }
+fn origin_kind(origin: Origin) -> Kind
+    ensures { kind_number result ≡ origin_kind origin }
 {
     match origin {
-        Origin::Initial => 1,
-        Origin::Direct(_) => 2,
-        Origin::S4U2self(_) => 3,
-        Origin::Delegated(_, _) => 4,
+        Origin::Initial => Kind::Initial,
+        Origin::Direct(_) => Kind::Direct,
+        Origin::S4U2self(_) => Kind::S4U2self,
+        Origin::Delegated(_, _) => Kind::S4U2proxy,
     }
 }
 
@@ -369,7 +335,7 @@ fn ticket_fields(ticket: Ticket) -> TicketFields
         u64::from(record::evidence_of(ticket.origin)),
         u64::from(ticket.hops),
         u64::from(ticket.barred),
-        origin_kind(ticket.origin),
+        u64::from(u8::from(origin_kind(ticket.origin))),
         trail[0],
         trail[1],
         trail[2],
@@ -391,11 +357,10 @@ pub extern "C" fn tickets_ticket_at(
     ensures answer { result ≡ ticket_at_answer (tickets_of ledger.now) place }
     ensures fields { fields.new ≡ ticket_at_fields (tickets_of ledger.now) place fields.old }
 {
-    let held = ledger::held_at(ledger, place as usize);
-    if !held.found {
-        return record::error_number(Error::KRB_AP_ERR_MODIFIED);
-    }
-    *fields = ticket_fields(held.ticket);
+    let Some(ticket) = ledger::held_at(ledger, place as usize) else {
+        return u32::from(Error::KRB_AP_ERR_MODIFIED);
+    };
+    *fields = ticket_fields(ticket);
     0
 }
 
@@ -416,11 +381,11 @@ pub extern "C" fn tickets_save(
     ledger: &LedgerWords,
     output: &mut [u8],
 ) -> TicketsAnswer
-    ensures answer { result ≡ written_answer (save_answer (length output.old)) }
+    ensures answer { result ≡ value_answer (save_answer (length output.old)) }
     ensures output { output.new ≡ save_output (record { accounts = accounts.now; ledger = ledger.now }) output.old }
 {
     if output.len() < SAVED_SIZE {
-        return error_answer(Error::KRB_ERR_RESPONSE_TOO_BIG);
+        return TicketsAnswer::from(Err(Error::KRB_ERR_RESPONSE_TOO_BIG));
     }
     put_body(output, accounts, ledger);
     put_sums(output);
@@ -441,7 +406,7 @@ pub extern "C" fn tickets_load(
     ensures service { record { accounts = accounts.new; ledger = ledger.new } ≡ load_service saved.now (record { accounts = accounts.old; ledger = ledger.old }) }
 {
     if !is_loadable(saved) {
-        return record::error_number(Error::KRB_ERR_GENERIC);
+        return u32::from(Error::KRB_ERR_GENERIC);
     }
     load_words(accounts, saved, ACCOUNTS_PLACE);
     load_words(ledger, saved, LEDGER_PLACE);

@@ -12,7 +12,7 @@ pub returns-then-not-is_loadable : goal.returns-then-not-is_loadable
 returns-then-not-is_loadable c =
     let s = c.args.saved.now in
     let no : loadable s ≡ false = sym c.is_loadable.ensures ∙ c.if-not-is_loadable.true in record {
-      answer = rw no c.error_number.ensures;
+      answer = rw no c.from.ensures;
       service = rw no;
     }
 

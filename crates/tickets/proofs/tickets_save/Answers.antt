@@ -12,7 +12,7 @@ pub returns-then-output-lt-SAVED_SIZE : goal.returns-then-output-lt-SAVED_SIZE
 returns-then-output-lt-SAVED_SIZE c =
     let a = c.args in
     let short : length a.output.now < saved_size = omega (arith, c.if-output-lt-SAVED_SIZE.true) in record {
-      answer = rw (lt-leb saved_size (length a.output.now) short) c.error_answer.ensures;
+      answer = rw (lt-leb saved_size (length a.output.now) short) c.from.ensures;
       output = save-short a.output.now (record { accounts = a.accounts.now; ledger = a.ledger.now }) short;
     }
 
