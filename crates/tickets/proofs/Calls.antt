@@ -1,7 +1,7 @@
 -- Laws of the exported calls.
 -- The bounds on the lengths of what is written, and the ledger's promises in numbers.
 -- Assumes nothing.
-use Prim.Native.Nat.{ℕ, ◌≤◌, ◌<◌}
+use Prim.Native.Nat.{ℕ, ◌<◌}
 use native.Mathlib.Omega.{arith}
 use mathlib.Core.Path.{◌≡◌, refl, ap, ◌∙◌}
 use mathlib.Core.Bool.{Bool, true, false, cond}
@@ -9,7 +9,7 @@ use mathlib.Core.List.{List, []}
 use lib.ListN.{length}
 use lib.Dec.{leb}
 use mir.Val.{bool_byte}
-use Rattle.std.specs.Prelude.{None, Result, Ok, Err, IfOk, IsOkAnd, MatchResult}
+use Rattle.std.specs.Prelude.{Some, None, Result, Ok, Err, IfOk}
 use Rattle.definitions.specs.Limits.{longest_record, trail_limit, two32}
 use Rattle.definitions.specs.ReadBack.{as_number}
 use Rattle.definitions.specs.Errors.{answer_number}
@@ -19,16 +19,16 @@ use Rattle.definitions.specs.Output.{written_of}
 use Rattle.definitions.specs.declared.error.Error.{Error}
 use Rattle.definitions.specs.declared.error.Error.TheVariants.{KRB_ERR_RESPONSE_TOO_BIG, KRB_ERR_GENERIC}
 use Rattle.definitions.specs.declared.ticket.Ticket.{Ticket}
-use Rattle.definitions.specs.declared.decision.Granted.{Granted}
 use Rattle.definitions.proofs.TicketRecords.{record-most}
 use Rattle.definitions.proofs.RoundTrip.{given-writable}
 use Rattle.definitions.specs.RequestWriting.{RequestParts, writable, request_of, request_written}
 use Rattle.definitions.proofs.RequestWriting.{request-short}
 use Rattle.definitions.specs.Edits.{Edit}
-use Rattle.definitions.specs.Answers.{edit as an-edit, request as a-request, clear as a-clearing, ungranted, given}
+use Rattle.definitions.specs.Answers.{edit as an-edit, clear as a-clearing, ungranted}
 use Rattle.definitions.specs.Services.{Service, Outcome, perform}
-use Rattle.tickets.specs.declared.TicketsAnswer.{TicketsAnswer}
-use Rattle.tickets.specs.Calls.{EditCall, RequestCall, ClearCall, value_answer, request_answer}
+use Rattle.ledger.specs.Lookups.{held_at}
+use Rattle.ledger.proofs.Lookups.{held-listed}
+use Rattle.tickets.specs.Calls.{EditCall, ClearCall}
 
 -- a truth value as a number
 pub flag_number : (it : Bool) → bool_byte it ≡ as_number it
@@ -48,6 +48,10 @@ record_fits t p k = by (well_formed t (map_of_ticket t)) (leb longest_record k)
 -- so it is of a ticket that was read
 pub read_fits : (s : List ℕ) → Bytes s → (t : Ticket) → read_ticket s ≡ Ok t → (k : ℕ) → IfOk (written_of t k) (λ n. n < two32)
 read_fits s b t e = record_fits t (given-writable t (record { bytes = s; are_bytes = b; read = e })).in_range.places
+
+-- and of one that is held
+pub held_fits : (w : List ℕ) (i : ℕ) (t : Ticket) → held_at w i ≡ Some t → (k : ℕ) → IfOk (written_of t k) (λ n. n < two32)
+held_fits w i t e = record_fits t (held-listed w i t e).2
 
 -- and of a request
 pub request_fits : (p : RequestParts) (k : ℕ) → IfOk (request_written p k) (λ n. n < two32)
@@ -72,32 +76,6 @@ edit-call w w' x r p n e =
     record {
       answered = λ l. e ∙ edit-number r ∙ ap (λ (o : Outcome). answer_number o.reply.answer) (p l);
       left = λ l. ap (λ (o : Outcome). o.service) (p l);
-    }
-
--- ---- A request, in numbers
--- the length of a grant is one of 32 bits
-pub granted_fits : (r : Result Granted Error) (m : Result ℕ Error) → IfOk r (λ grant. grant.length ≤ longest_record)
-    → MatchResult r (λ grant. IsOkAnd m (λ n. n ≡ grant.length)) (λ error. m ≡ Err error) → IfOk m (λ n. n < two32)
-granted_fits (Ok grant) (Ok n) h e = omega (arith, h, e)
-granted_fits (Ok grant) (Err error) h e = tt
-granted_fits (Err error) (Ok n) h e = absurd cc
-granted_fits (Err error) (Err other) h e = tt
-
--- and the record's
-pub granted_answer : (r : Result Granted Error) (m : Result ℕ Error) → IfOk r (λ grant. grant.length ≡ length (record_of grant.ticket))
-    → MatchResult r (λ grant. IsOkAnd m (λ n. n ≡ grant.length)) (λ error. m ≡ Err error) → value_answer m ≡ request_answer (given r)
-granted_answer (Ok grant) (Ok n) h e = ap (λ k. value_answer (Ok k)) (e ∙ h)
-granted_answer (Ok grant) (Err error) h e = absurd e
-granted_answer (Err error) m h e = ap value_answer e
-
-pub request-call : (s s' : Service) (bytes : List ℕ) (clock : ℕ) (o o' : List ℕ) (r : Result Granted Error)
-    → record { reply = record { answer = given r; output = o'; cleared = 0 }; service = s' } ≡ perform s (a-request bytes clock o)
-    → (x : TicketsAnswer) → x ≡ request_answer (given r) → RequestCall s bytes clock o x o' s'
-request-call s s' bytes clock o o' r p x e =
-    record {
-      answered = e ∙ ap (λ (z : Outcome). request_answer z.reply.answer) p;
-      laid = ap (λ (z : Outcome). z.reply.output) p;
-      left = ap (λ (z : Outcome). z.service) p;
     }
 
 -- ---- A clearing, in numbers

@@ -32,6 +32,7 @@ use rules::{AccountWords, NameBytes};
 use saving::{is_loadable, load_words, put_body, put_sums};
 
 // What a call answers: the error number, 0 where there is none, and a value, 0 beside an error.
+// Form: two numbers and no Result, since the C interface has them (include/tickets.h).
 #[repr(C)]
 #[derive(Clone, Copy)]
 pub struct TicketsAnswer {
@@ -124,6 +125,7 @@ pub extern "C" fn tickets_read_request(bytes: &[u8], fields: &mut RequestFields)
 }
 
 // Writes the request of these parts to the output's start: its length, 60 where no readable request has them, then 52.
+// Form: the parts stand in parameters of their own, since the C interface passes them so.
 #[tactic(auto, using(crate::proofs::Calls::request_fits))]
 #[unsafe(no_mangle)]
 pub extern "C" fn tickets_write_request(
@@ -174,6 +176,7 @@ pub extern "C" fn tickets_fresh(accounts: &mut AccountWords, ledger: &mut Ledger
 }
 
 // Sets one account whole: 0, or the refusal's number.
+// Form: what an edit sets stands in parameters of its own, since the C interface passes it so.
 #[unsafe(no_mangle)]
 pub extern "C" fn tickets_edit(
     accounts: &mut AccountWords,
@@ -196,6 +199,7 @@ pub extern "C" fn tickets_edit(
 }
 
 // The number of the account that a name stands for, 64 where it is unknown.
+// Form: 64 and no Option, since the C interface answers a number (R2.11).
 #[unsafe(no_mangle)]
 pub extern "C" fn tickets_find_name(accounts: &AccountWords, name: &[u8]) -> u32
     ensures { result ≡ find_name (table_of accounts.now) name.now }
@@ -248,6 +252,7 @@ pub extern "C" fn tickets_day_total(ledger: &LedgerWords) -> u64
 
 // ---- Reading a service.
 
+// Form: what is read is told in arrays of numbers, a truth value as 1 or 0, since the C interface has it so.
 // An account in numbers: whether it is set, its flags, the send set, the receive set, its lifetime, the length of its name.
 pub type AccountFields = [u64; 6];
 
@@ -292,6 +297,7 @@ pub extern "C" fn tickets_held(ledger: &LedgerWords) -> u32
 }
 
 // Writes the record of the ticket at a place to the output's start: 41 where none is held there, else what the writer answers.
+#[tactic(auto, using(crate::proofs::Calls::held_fits))]
 #[unsafe(no_mangle)]
 pub extern "C" fn tickets_record_at(
     ledger: &LedgerWords,
@@ -389,10 +395,7 @@ pub extern "C" fn tickets_save(
     }
     put_body(output, accounts, ledger);
     put_sums(output);
-    TicketsAnswer {
-        error: 0,
-        value: SAVED_SIZE as u32,
-    }
+    TicketsAnswer::from(Ok(SAVED_SIZE as u32))
 }
 
 // Makes the service the one that was saved as these bytes: 0, or 60.

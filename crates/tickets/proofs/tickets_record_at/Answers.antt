@@ -4,14 +4,7 @@ use Rattle.definitions.specs.Output.{written_of, output_of}
 use Rattle.definitions.specs.declared.ticket.Ticket.{Ticket}
 use Rattle.ledger.proofs.Lookups.{held-listed, none-listed}
 use Rattle.tickets.specs.Calls.{value_answer}
-use Rattle.tickets.proofs.Calls.{record_fits}
 use Rattle.tickets.proofs.tickets_record_at.Goals as goal
-
-pub value_answer-requires : goal.value_answer-requires
-value_answer-requires c =
-    let a = c.args in
-    let l = held-listed a.ledger.now a.place c.in-Some.ticket (sym c.held_at.ensures ∙ c.in-Some.is) in
-    rw c.write_ticket.ensures.answer (record_fits c.in-Some.ticket l.2 (length a.output.now))
 
 pub returns : goal.returns
 returns c =

@@ -22,7 +22,7 @@ returns c =
     let room : saved_size ≤ length a.output.now = omega (arith, c.if-output-lt-SAVED_SIZE.false) in
     let accounts : length a.accounts.now ≡ accounts_size = search rules in
     let ledger : length a.ledger.now ≡ ledger_size = search rules in record {
-      answer = rw (le-leb saved_size (length a.output.now) room);
+      answer = rw (le-leb saved_size (length a.output.now) room) c.from-2.ensures;
       output = c.put_sums.ensures
           ∙ rw c.put_body.ensures
           (put-saved a.output.now (record { accounts = a.accounts.now; ledger = a.ledger.now }) accounts ledger room);
