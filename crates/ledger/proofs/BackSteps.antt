@@ -1,10 +1,10 @@
 -- Laws of going back from a ticket: one step more than those of the ticket that it leads back to (R7.4).
 -- Assumes nothing.
-use mathlib.Core.Path.{◌≡◌, ap, ◌∙◌}
+use mathlib.Core.Path.{◌≡◌}
 use mathlib.Core.Option.{Option, some, none}
 use Prim.Native.Nat.{ℕ, ◌+◌}
 use native.Mathlib.Numerals.{add-one}
-use Rattle.std.specs.Prelude.{Result, Ok, Err}
+use Rattle.std.specs.Prelude.{Ok, Err}
 use Rattle.definitions.specs.declared.error.Error.{Error}
 use Rattle.definitions.specs.Descent.{more, descended}
 use Rattle.definitions.proofs.Checks.{ok_same}

@@ -15,7 +15,7 @@ use Rattle.rules.specs.Lanes.{all_lanes, top_bits, filled_marks}
 use Rattle.definitions.specs.LedgerWords.{ticket_in, ticket_at, count_held, tickets_from, tickets_of}
 use Rattle.definitions.specs.HeldTickets.{first_ticket, is_ticket, holds}
 use mathlib.Core.Option.{Option as Maybe, some as just, none as nothing}
-use Rattle.std.specs.Prelude.{Option, Some, None, MatchOption, option_map, Result, Ok}
+use Rattle.std.specs.Prelude.{Option, Some, None, MatchOption, option_map, Ok}
 use Rattle.ledger.specs.Lookups.{given, is_found, first_held, held_at, NoneHas, NoLane, NoneIn, FirstLane, moment_at}
 use lib.ListN.{length, get_or, take, drop, length-append, length-drop, get_or-append}
 use lib.Seq.{drop-append_seam}
@@ -24,8 +24,6 @@ use Rattle.std.proofs.lemmas.List.Sums.{sum_by-cons}
 use Rattle.definitions.specs.Totals.{seconds_of, day_total}
 use Rattle.std.proofs.lemmas.List.{get_or-take, get_or-drop, length-take, drop-drop}
 use Rattle.std.proofs.lemmas.Nat.{mod-mul-add}
-use Rattle.definitions.specs.Requests.{read_request, path_of, request_for, request_layout}
-use Rattle.definitions.specs.declared.error.Error.TheVariants.{KRB_ERR_GENERIC}
 use Rattle.definitions.specs.declared.ticket.Ticket.{Ticket}
 use Rattle.definitions.specs.declared.ticket.Origin.{Origin}
 use Rattle.definitions.specs.declared.request.Kind.{Kind}
@@ -40,11 +38,10 @@ use Rattle.definitions.proofs.Decisions.{alike-kind}
 use Rattle.definitions.specs.Answers.{decide_read}
 use mir.Val.{Fits}
 use Rattle.definitions.specs.Accounts.{Table}
-use Rattle.definitions.specs.declared.decision.Moment.{Moment}
 use Rattle.definitions.specs.Decisions.{decide_kind}
 use Rattle.rules.proofs.Lanes.{lanes-other}
 use Rattle.definitions.proofs.LedgerWords.{tickets-start, first-here, first_on, first-end}
-use Rattle.definitions.specs.Fields.{field_of, map_of, Bytes}
+use Rattle.definitions.specs.Fields.{Bytes}
 use Rattle.definitions.specs.Output.{written_of}
 use Rattle.definitions.specs.Services.{Service, decision_of}
 use Rattle.definitions.proofs.Services.{granting}

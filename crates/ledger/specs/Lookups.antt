@@ -1,7 +1,7 @@
 -- How the code looks tickets up: the moment, what a look-up tells, and many places at a time (R5.1, R7.1). Of the exported
 -- promises those of `held_at` and `first_held` alone speak of it; the laws of the same name tie it to `holds` and `first_ticket`.
 -- Assumes nothing.
-use Rattle.std.specs.Prelude.{ℕ, ◌%◌, ◌≤◌, ◌<◌, ◌≡◌, Bool, false, cond, ltb, leb, List, length, get_or, Option, Some, None, MatchOption}
+use Rattle.std.specs.Prelude.{ℕ, ◌%◌, ◌≤◌, ◌<◌, ◌≡◌, Bool, false, cond, ltb, leb, List, get_or, Option, Some, None, MatchOption}
 use Rattle.std.proofs.Math.Option.{Option as Maybe, some as just, none as nothing}
 use Rattle.definitions.specs.Limits.{number_bits, numbers_in_word, ticket_limit, last_number, two16}
 use Rattle.definitions.specs.Words.{lane_of}

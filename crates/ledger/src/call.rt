@@ -18,9 +18,8 @@ use crate::storing::store_ticket;
 use crate::words::{LedgerWords, fresh_ledger};
 use definitions::{Error, Granted, Kind, Request, Settings, Ticket};
 use rules::{
-    AccountWords, asks_forwardable, check_room, decide_direct, decide_initial, decide_s4u2proxy,
-    decide_s4u2self, edit_account, fresh_accounts, has_cname_in_addl_tkt, is_resource_based,
-    read_rest, request_path, write_ticket,
+    AccountWords, Question, check_room, edit_account, fresh_accounts, read_rest, request_path,
+    write_ticket,
 };
 
 // A fresh service, with no account set and no ticket held.
@@ -49,47 +48,23 @@ fn decide_read(
     held: HeldTickets,
     bytes: &[u8],
     clock: u32,
-    request: Request,
+    request: &Request,
 ) -> Result<Ticket, Error>
-    ensures { result ≡ decide_read (table_of accounts.now) (tickets_of held.entry.words.now) bytes.now (record { clock = clock; count = count_held held.entry.words.now; next = next_number held.entry.words.now }) request }
+    ensures { result ≡ decide_read (table_of accounts.now) (tickets_of held.entry.words.now) bytes.now (record { clock = clock; count = count_held held.entry.words.now; next = next_number held.entry.words.now }) request.now }
 {
-    let moment = held.moment(clock);
-    let asked = asks_forwardable(request.options);
+    let question = Question {
+        accounts,
+        bytes,
+        request,
+        moment: held.moment(clock),
+    };
     match request.kind {
-        Kind::Initial => decide_initial(accounts, bytes, moment, asked, request.till, request.user),
-        Kind::Direct => decide_direct(
-            accounts,
-            bytes,
-            moment,
-            asked,
-            request.till,
-            request.tgt,
-            held.holds(request.tgt),
-            request.service,
-        ),
-        Kind::S4U2self => decide_s4u2self(
-            accounts,
-            bytes,
-            moment,
-            asked,
-            request.till,
-            request.tgt,
-            held.holds(request.tgt),
-            request.user,
-        ),
-        Kind::S4U2proxy => decide_s4u2proxy(
-            accounts,
-            bytes,
-            moment,
-            has_cname_in_addl_tkt(request.options),
-            is_resource_based(request.pac_options),
-            request.till,
-            request.tgt,
-            held.holds(request.tgt),
-            request.evidence,
-            held.holds(request.evidence),
-            request.service,
-        ),
+        Kind::Initial => question.decide_initial(),
+        Kind::Direct => question.decide_direct(held.holds(request.tgt)),
+        Kind::S4U2self => question.decide_s4u2self(held.holds(request.tgt)),
+        Kind::S4U2proxy => {
+            question.decide_s4u2proxy(held.holds(request.tgt), held.holds(request.evidence))
+        }
     }
 }
 
@@ -107,7 +82,7 @@ fn decide_request(
 {
     let request = read_rest(bytes, kind)?;
     check_room(room)?;
-    decide_read(accounts, held, bytes, clock, request)
+    decide_read(accounts, held, bytes, clock, &request)
 }
 
 // Answers a request. A grant stores its ticket and writes its record to the output's start, and leaves the accounts; a refusal changes nothing.

@@ -1,12 +1,11 @@
 -- Laws of the stages: each kind's list of checks, in the rules' order, is its groups of checks one after the other (R6.2).
 -- Assumes nothing.
-use Rattle.std.specs.Prelude.{Result, Ok}
+use Rattle.std.specs.Prelude.{Ok}
 use mathlib.Core.Path.{◌≡◌, ap, ◌∙◌}
-use mathlib.Core.List.{List, [], ◌∷◌, ◌++◌}
+use mathlib.Core.List.{[], ◌∷◌, ◌++◌}
 use mathlib.Core.Bool.{Bool}
 use Prim.Native.Nat.{ℕ, ◌<◌}
 use Rattle.definitions.specs.Checks.{and_then, judge}
-use Rattle.definitions.specs.declared.error.Error.{Error}
 use Rattle.definitions.specs.declared.account.Named.{Named}
 use Rattle.definitions.specs.declared.ticket.Ticket.{Ticket}
 use Rattle.definitions.specs.Windows.{initial_window}

@@ -16,14 +16,12 @@ mod windows;
 mod words;
 
 pub use check::check_room;
-pub use decision::{decide_direct, decide_initial, decide_s4u2proxy, decide_s4u2self};
+pub use decision::Question;
 pub use edit::edit_account;
 pub use letters::words_match;
 pub use name::find_name;
-pub use options::{asks_forwardable, has_cname_in_addl_tkt, is_resource_based};
 pub use record::{
-    blank_ticket, evidence_of, read_rest, request_path, tgt_of, trail_word,
-    write_ticket,
+    blank_ticket, evidence_of, read_rest, request_path, tgt_of, trail_word, write_ticket,
 };
 pub use spelt::{NameBytes, read_name};
 pub use words::{AccountWords, account_at, fresh_accounts};

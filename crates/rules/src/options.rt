@@ -1,46 +1,38 @@
 // The bits of ticket flags, options and PAC options, each by its name (R3.4, R4.4).
-ghost use Rattle.std.specs.Prelude.{◌≡◌};
-ghost use Rattle.definitions.specs.Options.{is_forwardable, asks_forwardable, has_cname_in_addl_tkt, is_resource_based, flags_of};
+ghost use Rattle.std.specs.Prelude.{◌≡◌, cond};
+ghost use Rattle.definitions.specs.Options.{flags_of};
+ghost use Rattle.rules.specs.Flags.{has_option, mask_of};
 
 use record::has_bit;
 
-// Whether a ticket's flags have FORWARDABLE.
-pub(crate) fn is_forwardable(flags: u32) -> bool
-    ensures { result ≡ is_forwardable flags }
-{
-    has_bit(flags as u64, 30)
+// A bit of a ticket's flags, of a request's options or of its PAC options.
+#[derive(Clone, Copy)]
+pub(crate) enum Bit {
+    CnameInAddlTkt = 17,
+    Initial = 22,
+    ResourceBased = 28,
+    Forwardable = 30,
 }
 
-// Whether a request's options ask for FORWARDABLE.
-pub fn asks_forwardable(options: u32) -> bool
-    ensures { result ≡ asks_forwardable options }
-{
-    has_bit(options as u64, 30)
-}
+impl Bit {
+    // Whether it stands in flags or options.
+    pub(crate) fn is_in(self, bits: u32) -> bool
+        ensures { result ≡ has_option self bits }
+    {
+        has_bit(bits as u64, self as usize)
+    }
 
-// Whether a request's options have CNAME-IN-ADDL-TKT.
-pub fn has_cname_in_addl_tkt(options: u32) -> bool
-    ensures { result ≡ has_cname_in_addl_tkt options }
-{
-    has_bit(options as u64, 17)
-}
-
-// Whether a request's PAC options have the resource-based bit.
-pub fn is_resource_based(options: u32) -> bool
-    ensures { result ≡ is_resource_based options }
-{
-    has_bit(options as u64, 28)
+    // The flags that have it alone, or none.
+    fn given(self, stands: bool) -> u32
+        ensures { result ≡ cond stands (mask_of self) 0 }
+    {
+        (stands as u32) << self as u32
+    }
 }
 
 // The flags of a new ticket.
 pub(crate) fn flags_of(forwardable: bool, initial: bool) -> u32
     ensures { result ≡ flags_of forwardable initial }
 {
-    if forwardable {
-        if initial { 0x40400000 } else { 0x40000000 }
-    } else if initial {
-        0x00400000
-    } else {
-        0
-    }
+    Bit::Forwardable.given(forwardable) + Bit::Initial.given(initial)
 }

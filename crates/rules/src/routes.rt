@@ -5,7 +5,7 @@ ghost use Rattle.definitions.specs.Routes.{classic_route, resource_route, has_ro
 ghost use Rattle.definitions.specs.Decisions.{hop_permitted};
 
 use crate::accounts::{Flag, has_flag, in_set};
-use crate::options::is_forwardable;
+use crate::options::Bit;
 use definitions::{Named, Presented};
 
 // A hop: its TGT, its evidence, the service that it goes to, and whether CNAME-IN-ADDL-TKT and the resource-based option stand.
@@ -25,7 +25,7 @@ impl Hop<'_> {
         ensures { result ≡ classic_route self.now.tgt.now.client self.now.evidence.now.ticket self.now.service2.number }
     {
         in_set(self.tgt.client.send, self.service2.number as usize)
-            && is_forwardable(self.evidence.ticket.flags)
+            && Bit::Forwardable.is_in(self.evidence.ticket.flags)
     }
 
     // Whether the resource route holds.

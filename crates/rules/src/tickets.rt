@@ -4,7 +4,7 @@ ghost use Rattle.definitions.specs.Limits.{trail_limit};
 ghost use Rattle.definitions.specs.NewTickets.{direct_mark, s4u2self_forwardable, initial_ticket, direct_ticket, s4u2self_ticket, s4u2proxy_ticket};
 
 use crate::accounts::{Flag, has_flag};
-use crate::options::{flags_of, is_forwardable};
+use crate::options::{Bit, flags_of};
 use definitions::{Named, Origin, Presented, Principal, Ticket, Window};
 use record::blank_ticket;
 
@@ -45,7 +45,10 @@ pub(crate) fn direct_ticket(
     let barred = direct_mark(tgt);
     Ticket {
         number: next,
-        flags: flags_of(asked && is_forwardable(tgt.ticket.flags) && !barred, false),
+        flags: flags_of(
+            asked && Bit::Forwardable.is_in(tgt.ticket.flags) && !barred,
+            false,
+        ),
         client: tgt.ticket.client,
         service: number,
         window,
@@ -60,7 +63,7 @@ fn s4u2self_forwardable(tgt: &Presented, asked: bool) -> bool
     ensures { result ≡ s4u2self_forwardable tgt.now.client asked tgt.now.ticket }
 {
     has_flag(tgt.client, Flag::Trusted)
-        || (tgt.client.send == 0 && asked && is_forwardable(tgt.ticket.flags))
+        || (tgt.client.send == 0 && asked && Bit::Forwardable.is_in(tgt.ticket.flags))
 }
 
 // The ticket of kind 3, for a user, to Service 1, the TGT's client.
@@ -103,7 +106,7 @@ pub(crate) fn s4u2proxy_ticket(
     trail[evidence.hops as usize] = tgt.client;
     Ticket {
         number: next,
-        flags: flags_of(is_forwardable(evidence.flags), false),
+        flags: flags_of(Bit::Forwardable.is_in(evidence.flags), false),
         client: evidence.client,
         service: number,
         window,

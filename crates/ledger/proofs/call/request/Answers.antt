@@ -1,13 +1,10 @@
-use mathlib.Core.Path.{◌≡◌, refl, sym, ◌∙◌}
+use mathlib.Core.Path.{refl, sym, ◌∙◌}
 use native.Mathlib.Omega.{arith}
 use lib.ListN.{length}
-use Rattle.std.specs.Prelude.{Result, Ok, Err}
 use Rattle.std.proofs.lemmas.Result.{err_from_is_err_and}
 use Rattle.definitions.specs.Fields.{Bytes}
-use Rattle.definitions.specs.declared.error.Error.{Error}
 use Rattle.definitions.specs.declared.error.Error.TheVariants.{KRB_ERR_GENERIC}
-use Rattle.definitions.specs.declared.ticket.Ticket.{Ticket}
-use Rattle.definitions.specs.Services.{Service, decision_of}
+use Rattle.definitions.specs.Services.{Service}
 use Rattle.definitions.proofs.Requests.{read-refuse}
 use Rattle.definitions.proofs.Checks.{ok_same}
 use Rattle.definitions.proofs.Answers.{unread}

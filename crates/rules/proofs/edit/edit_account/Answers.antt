@@ -3,8 +3,7 @@ use borrow.Author.Rules.{rules}
 use Rattle.definitions.specs.AccountWords.{table_of, store_row}
 use Rattle.definitions.specs.Names.{name_taken}
 use Rattle.definitions.specs.Edits.{Edit, edit_of, keeps_name, edit_checks, edit_answer, edit_row}
-use Rattle.std.specs.Prelude.{Result, Ok}
-use Rattle.definitions.specs.declared.error.Error.{Error}
+use Rattle.std.specs.Prelude.{Ok}
 use Rattle.definitions.proofs.Edits.{table-edited}
 use Rattle.rules.proofs.edit.edit_account.Goals as goal
 
