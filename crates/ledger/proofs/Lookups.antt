@@ -35,7 +35,6 @@ use mir.Syntax.{w32}
 use Rattle.definitions.proofs.Services.{granting}
 use Rattle.definitions.proofs.Bools.{and_no}
 use Rattle.definitions.proofs.Decisions.{alike-kind}
-use Rattle.definitions.specs.Answers.{decide_read}
 use mir.Val.{Fits}
 use Rattle.definitions.specs.Accounts.{Table}
 use Rattle.definitions.specs.Decisions.{decide_kind}
@@ -214,7 +213,7 @@ held_found l t = by (first_ticket t.number l)
 
 -- ---- A request on a decision path
 -- at the code's moment the same is decided as at the stored next number
-moment-decides : (clock count stored : ℕ) (k : Kind) (a : Table) (s : List ℕ) (r : Request) (g e : Bool)
+pub moment-decides : (clock count stored : ℕ) (k : Kind) (a : Table) (s : List ℕ) (r : Request) (g e : Bool)
     → decide_kind k a s r g e (moment_at clock count stored) ≡ decide_kind k a s r g e (record { clock = clock; count = count; next = stored })
 unfolding moment_at
 moment-decides clock count stored k a s r g e = by (leb stored last_number) refl
@@ -226,12 +225,6 @@ moment-decides clock count stored k a s r g e = by (leb stored last_number) refl
         let same : stored % two16 ≡ stored = omega (arith, leb-true stored last_number q) in
         ap (λ (n : ℕ). decide_kind k a s r g e (record { clock = clock; count = count; next = n })) same
     by false q = alike-kind clock ticket_limit (stored % two16) count stored refl (and_no (ltb count ticket_limit) (leb stored last_number) q) k a s r g e
-
-pub moment-read : (clock count stored : ℕ) (a : Table) (l : List Ticket) (s : List ℕ) (r : Request) (k : Kind) → r.kind ≡ k
-    → decide_kind k a s r (holds l r.tgt) (holds l r.evidence) (moment_at clock count stored) ≡ decide_read a l s (record { clock = clock; count = count; next = stored }) r
-moment-read clock count stored a l s r k e =
-    moment-decides clock count stored k a s r (holds l r.tgt) (holds l r.evidence)
-    ∙ ap (λ (j : Kind). decide_kind j a s r (holds l r.tgt) (holds l r.evidence) (record { clock = clock; count = count; next = stored })) (sym e)
 
 -- ---- The length of a grant's record is what the writer answers, and at most the longest
 pub granted-length : (s : Service) (bytes : List ℕ) (clock room : ℕ) (t : Ticket) → Ok t ≡ decision_of s bytes clock room → Bytes bytes → Fits w32 clock

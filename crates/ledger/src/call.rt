@@ -42,22 +42,11 @@ pub fn edit(
     edit_account(accounts, number, name, settings)
 }
 
-// What a request that was read is answered: by its kind, with only that looked up which the kind presents.
-fn decide_read(
-    accounts: &AccountWords,
-    held: HeldTickets,
-    bytes: &[u8],
-    clock: u32,
-    request: &Request,
-) -> Result<Ticket, Error>
-    ensures { result ≡ decide_read (table_of accounts.now) (tickets_of held.entry.words.now) bytes.now (record { clock = clock; count = count_held held.entry.words.now; next = next_number held.entry.words.now }) request.now }
+// What a question is answered: by its request's kind, with only that looked up which the kind presents.
+fn decide_read(question: &Question<'_>, held: HeldTickets) -> Result<Ticket, Error>
+    ensures { result ≡ decide_read (table_of question.now.accounts.now) (tickets_of held.entry.words.now) question.now.bytes.now question.now.moment question.now.request.now }
 {
-    let question = Question {
-        accounts,
-        bytes,
-        request,
-        moment: held.moment(clock),
-    };
+    let request = question.request;
     match request.kind {
         Kind::Initial => question.decide_initial(),
         Kind::Direct => question.decide_direct(held.holds(request.tgt)),
@@ -82,7 +71,13 @@ fn decide_request(
 {
     let request = read_rest(bytes, kind)?;
     check_room(room)?;
-    decide_read(accounts, held, bytes, clock, &request)
+    let question = Question {
+        accounts,
+        bytes,
+        request: &request,
+        moment: held.moment(clock),
+    };
+    decide_read(&question, held)
 }
 
 // Answers a request. A grant stores its ticket and writes its record to the output's start, and leaves the accounts; a refusal changes nothing.

@@ -1,10 +1,13 @@
 use mathlib.Core.Path.{sym, ◌∙◌}
+use lib.ListN.{length}
 use Rattle.std.proofs.lemmas.Result.{err_from_is_err_and}
 use Rattle.definitions.specs.AccountWords.{table_of}
+use Rattle.definitions.specs.HeldTickets.{holds}
 use Rattle.definitions.specs.LedgerWords.{tickets_of, next_number}
 use Rattle.definitions.proofs.LedgerWords.{tickets-length}
 use Rattle.definitions.proofs.Requests.{read-along}
 use Rattle.definitions.proofs.Answers.{unread, crowded, opened}
+use Rattle.ledger.proofs.Lookups.{moment-decides}
 use Rattle.ledger.proofs.call.decide_request.Goals as goal
 use Rattle.std.specs.Prelude.{Some}
 
@@ -30,7 +33,11 @@ pub returns : goal.returns
 returns c =
     let a = c.args in
     let w = a.held.words.now in
+    let t = table_of a.accounts.now in
+    let l = tickets_of w in
+    let n = next_number w in
+    let r = c.in_ok-request.request in
     let read = sym (c.read_rest.ensures ∙ read-along a.bytes.now (Some a.kind) c.requires) ∙ c.in_ok-request.was in
-    rw (sym (tickets-length w)) at c.decide_read.ensures
-    ∙ opened (table_of a.accounts.now) (tickets_of w) (next_number w) a.bytes.now a.clock a.room c.in_ok-request.request read
-    (sym c.check_room.ensures ∙ c.in_ok-check_room.was)
+    rw (c.moment.ensures, sym (tickets-length w)) at c.decide_read.ensures
+    ∙ moment-decides a.clock (length l) n r.kind t a.bytes.now r (holds l r.tgt) (holds l r.evidence)
+    ∙ opened t l n a.bytes.now a.clock a.room r read (sym c.check_room.ensures ∙ c.in_ok-check_room.was)
