@@ -4,17 +4,14 @@ use Rattle.std.specs.Prelude.{Ok}
 use mathlib.Core.Path.{◌≡◌, ap, ◌∙◌}
 use mathlib.Core.List.{[], ◌∷◌, ◌++◌}
 use mathlib.Core.Bool.{Bool}
-use Prim.Native.Nat.{ℕ, ◌<◌}
+use Prim.Native.Nat.{ℕ}
 use Rattle.definitions.specs.Checks.{and_then, judge}
 use Rattle.definitions.specs.declared.account.Named.{Named}
-use Rattle.definitions.specs.declared.ticket.Ticket.{Ticket}
 use Rattle.definitions.specs.Windows.{initial_window}
 use Rattle.definitions.specs.NewTickets.{initial_ticket, direct_ticket, s4u2self_ticket, s4u2proxy_ticket}
 use Rattle.definitions.specs.Decisions.{service_check, s4u2self_check, user_checks, hop_checks, last_checks, tgt_checks, evidence_checks, initial_checks, direct_checks, s4u2self_checks, s4u2proxy_checks, window_of, hop_window_of, hop_permitted, decide_initial, decide_direct, decide_s4u2self, decide_s4u2proxy}
 use Rattle.definitions.specs.declared.decision.Presented.{Presented}
 use Rattle.definitions.specs.declared.decision.Moment.{Moment}
-use Rattle.definitions.specs.Limits.{trail_limit}
-use Rattle.definitions.proofs.Grants.{hop-good}
 use Rattle.definitions.proofs.Decisions.{decided-append}
 
 -- kind 1: the user, the last
@@ -80,7 +77,3 @@ s4u2proxy_staged m cname resource till g e s =
     (decided-append ys (zs ++ (hs ++ last_checks m w)) t
     ∙ ap (and_then (judge ys))
     (decided-append zs (hs ++ last_checks m w) t ∙ ap (and_then (judge zs)) (decided-append hs (last_checks m w) t)))
-
--- a hop whose checks hold has room in its trail
-pub hop_few : (p : Bool) (e : Ticket) → judge (hop_checks p e) ≡ Ok tt → e.hops < trail_limit
-hop_few p e h = (hop-good p e h).few

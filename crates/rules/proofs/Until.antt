@@ -17,10 +17,10 @@ until-wished w till n = by (eqb till 0)
     by true = refl
     by false = search arith
 
-pub until-initial : (clock lifetime till n : ℕ) → until (initial_window clock lifetime till) n ≡ grant_window clock lifetime till n
+pub until_initial : (clock lifetime till n : ℕ) → until (initial_window clock lifetime till) n ≡ grant_window clock lifetime till n
 unfolding initial_window grant_window
-until-initial clock lifetime till n = until-wished (full_window clock lifetime) till n
+until_initial clock lifetime till n = until-wished (full_window clock lifetime) till n
 
-pub until-grant : (clock lifetime till n m : ℕ) → until (grant_window clock lifetime till n) m ≡ hop_window clock lifetime till n m
+pub until_grant : (clock lifetime till n m : ℕ) → until (grant_window clock lifetime till n) m ≡ hop_window clock lifetime till n m
 unfolding grant_window hop_window
-until-grant clock lifetime till n m = until-wished (until (full_window clock lifetime) n) till m
+until_grant clock lifetime till n m = until-wished (until (full_window clock lifetime) n) till m

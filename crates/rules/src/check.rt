@@ -1,5 +1,6 @@
 // The checks of a request, in the order of R6.2; each function answers the first that fails.
-ghost use Rattle.std.specs.Prelude.{◌≡◌, [], ◌∷◌, not, ◌&&◌, ◌==◌};
+ghost use Rattle.std.specs.Prelude.{◌≡◌, [], ◌∷◌, not, ◌&&◌, ◌==◌, ◌<◌, IfOk};
+ghost use Rattle.definitions.specs.Limits.{trail_limit};
 ghost use Rattle.definitions.specs.Checks.{check, judge};
 ghost use Rattle.definitions.specs.Decisions.{is_initial, room_check, window_checks, tgt_checks, evidence_checks, service_check, s4u2self_check, user_checks, hop_checks, last_checks};
 
@@ -106,7 +107,8 @@ pub(crate) fn check_self(service1: Account) -> Result<(), Error>
 // The checks of a hop: 13, 61.
 #[tactic(auto, unfolding(definitions::specs::Decisions::hop_checks))]
 pub(crate) fn check_hop(permitted: bool, evidence: &Ticket) -> Result<(), Error>
-    ensures { result ≡ judge (hop_checks permitted evidence.now) }
+    ensures judged { result ≡ judge (hop_checks permitted evidence.now) }
+    ensures few { IfOk result (λ held. evidence.now.hops < trail_limit) }
 {
     ensure(permitted, Error::KDC_ERR_BADOPTION)?;
     ensure(

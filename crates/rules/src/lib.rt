@@ -9,6 +9,7 @@ mod edit;
 mod letters;
 mod name;
 mod options;
+mod question;
 mod routes;
 mod spelt;
 mod tickets;
@@ -16,10 +17,10 @@ mod windows;
 mod words;
 
 pub use check::check_room;
-pub use decision::Question;
 pub use edit::edit_account;
 pub use letters::words_match;
 pub use name::find_name;
+pub use question::Question;
 pub use record::{
     blank_ticket, evidence_of, read_rest, request_path, tgt_of, trail_word, write_ticket,
 };

@@ -1,21 +1,21 @@
 // What permits a hop of kind 4 (R5.7): no bar of the client, the option, and one of two routes, from Service 1, the TGT's client, to Service 2,
 // which the request names.
 ghost use Rattle.std.specs.Prelude.{◌≡◌};
+ghost use Rattle.definitions.specs.Options.{has_cname_in_addl_tkt, is_resource_based};
 ghost use Rattle.definitions.specs.Routes.{classic_route, resource_route, has_route};
 ghost use Rattle.definitions.specs.Decisions.{hop_permitted};
 
 use crate::accounts::{Flag, has_flag, in_set};
 use crate::options::Bit;
-use definitions::{Named, Presented};
+use definitions::{Named, Presented, Request};
 
-// A hop: its TGT, its evidence, the service that it goes to, and whether CNAME-IN-ADDL-TKT and the resource-based option stand.
+// A hop: the request that asks for it, its TGT, its evidence, and the service that it goes to.
 #[derive(Clone, Copy)]
 pub(crate) struct Hop<'a> {
+    pub(crate) request: &'a Request,
     pub(crate) tgt: &'a Presented,
     pub(crate) evidence: &'a Presented,
     pub(crate) service2: Named,
-    pub(crate) cname: bool,
-    pub(crate) resource: bool,
 }
 
 impl Hop<'_> {
@@ -31,9 +31,9 @@ impl Hop<'_> {
     // Whether the resource route holds.
     #[tactic(auto, unfolding(definitions::specs::Routes::resource_route))]
     fn resource_route(&self) -> bool
-        ensures { result ≡ resource_route self.now.service2.account self.now.resource self.now.tgt.now.ticket.client self.now.evidence.now.ticket }
+        ensures { result ≡ resource_route self.now.service2.account (is_resource_based self.now.request.now.pac_options) self.now.tgt.now.ticket.client self.now.evidence.now.ticket }
     {
-        self.resource
+        Bit::ResourceBased.is_in(self.request.pac_options)
             && in_set(
                 self.service2.account.receive,
                 self.tgt.ticket.client as usize,
@@ -44,10 +44,10 @@ impl Hop<'_> {
     // Whether the evidence's client is not barred, CNAME-IN-ADDL-TKT stands and a route holds.
     #[tactic(auto, unfolding(definitions::specs::Routes::is_permitted, definitions::specs::Routes::has_route))]
     pub(crate) fn is_permitted(&self) -> bool
-        ensures { result ≡ hop_permitted self.now.cname self.now.resource self.now.tgt.now self.now.evidence.now self.now.service2 }
+        ensures { result ≡ hop_permitted (has_cname_in_addl_tkt self.now.request.now.options) (is_resource_based self.now.request.now.pac_options) self.now.tgt.now self.now.evidence.now self.now.service2 }
     {
         !has_flag(self.evidence.client, Flag::Barred)
-            && self.cname
+            && Bit::CnameInAddlTkt.is_in(self.request.options)
             && (self.classic_route() || self.resource_route())
     }
 }

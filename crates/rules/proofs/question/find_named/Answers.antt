@@ -8,7 +8,7 @@ use Rattle.definitions.specs.declared.account.Name.{Name}
 use Rattle.rules.specs.NameSearch.{bytes_of}
 use Rattle.rules.proofs.NameSearch.{find-packed}
 use lib.ListN.{drop}
-use Rattle.rules.proofs.decision.find_named.Goals as goal
+use Rattle.rules.proofs.question.find_named.Goals as goal
 
 pub returns : goal.returns
 returns c =
