@@ -11,7 +11,7 @@ use definitions::{
 };
 
 // Nothing where a check holds, else its refusal.
-fn ensure(holds: bool, error: Error) -> Result<(), Error>
+pub(crate) fn ensure(holds: bool, error: Error) -> Result<(), Error>
     ensures { result ≡ judge (check holds error ∷ []) }
 {
     if holds { Ok(()) } else { Err(error) }

@@ -6,6 +6,7 @@ ghost use Rattle.definitions.specs.Names.{name_of};
 ghost use Rattle.rules.specs.NameSearch.{bytes_of};
 ghost use Rattle.definitions.specs.Edits.{edit_of, readable_edit, keeps_name, edit_answer, edit_row, edited};
 
+use crate::check::ensure;
 use crate::name::{SetName, name_taken};
 use crate::words::{AccountWords, Row, put_row};
 use definitions::{ALL_FLAGS, Error, LAST_ACCOUNT, Settings, TWO_8, TWO_32};
@@ -89,15 +90,12 @@ pub fn edit_account(
     ensures words { let edit = edit_of number name.now settings.flags settings.send settings.receive settings.lifetime in words.new ≡ stored_by result words.old edit }
     ensures table { let edit = edit_of number name.now settings.flags settings.send settings.receive settings.lifetime in table_of words.new ≡ edited (table_of words.old) edit }
 {
-    let Some(edit) = GoodEdit::read(number, name, settings) else {
-        return Err(Error::KRB_ERR_GENERIC);
-    };
-    if !edit.keeps_name(words) {
-        return Err(Error::KDC_ERR_POLICY);
-    }
-    if name_taken(words, edit.number, edit.name) {
-        return Err(Error::KDC_ERR_PRINCIPAL_NOT_UNIQUE);
-    }
+    let edit = GoodEdit::read(number, name, settings).ok_or(Error::KRB_ERR_GENERIC)?;
+    ensure(edit.keeps_name(words), Error::KDC_ERR_POLICY)?;
+    ensure(
+        !name_taken(words, edit.number, edit.name),
+        Error::KDC_ERR_PRINCIPAL_NOT_UNIQUE,
+    )?;
     edit.store(words);
     Ok(())
 }

@@ -13,7 +13,7 @@ fn keep(word: u64) -> u64
     let from_a = lettered + 0x3F3F3F3F3F3F3F3F;
     let past_z = lettered + 0x2525252525252525;
     let letters = ((from_a ^ past_z) & (word ^ 0x8080808080808080)) & 0x8080808080808080;
-    (letters >> 2) ^ 0xFFFFFFFFFFFFFFFF
+    !(letters >> 2)
 }
 
 // Whether the bytes of two words match at each of the eight places.

@@ -18,14 +18,12 @@ fn words_agree(ignore: bool, a: u64, b: u64) -> bool
 }
 
 // All bits of the first bytes of a word, as many as are counted, or of all eight.
+#[tactic(auto, using(crate::proofs::NameSearch::bytes_shifted))]
 fn first_bytes(count: usize) -> u64
     requires { 0 < count }
     ensures { result ≡ first_bytes count }
 {
-    if 8 <= count {
-        return 0xFFFFFFFFFFFFFFFF;
-    }
-    0xFFFFFFFFFFFFFFFF >> (64 - 8 * count)
+    u64::MAX >> (64 - 8 * count.min(8))
 }
 
 // A name of a length that names have.
