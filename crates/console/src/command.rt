@@ -1,7 +1,7 @@
 // The calls that a line can make, and how they are read from its words.
 use crate::failure::{Failure, Wrong};
 use crate::lines::LONGEST_LINE;
-use definitions::Kind;
+use definitions::{Kind, Settings};
 use std::alloc::Global;
 use std::num::TryFromIntError;
 use std::str;
@@ -62,15 +62,12 @@ impl<'a> Command<'a> {
     }
 }
 
-// What an edit sets.
+// An account, the name that it is given, and what else an edit sets of it.
 #[derive(Clone, Copy)]
 pub struct Edit<'a> {
     pub number: u32,
     pub name: &'a [u8],
-    pub flags: u32,
-    pub send: u64,
-    pub receive: u64,
-    pub lifetime: u32,
+    pub settings: Settings,
 }
 
 impl<'a> Edit<'a> {
@@ -81,10 +78,12 @@ impl<'a> Edit<'a> {
         Ok(Edit {
             number: number(account)?,
             name,
-            flags: number(flags)?,
-            send: number(send)?,
-            receive: number(receive)?,
-            lifetime: number(lifetime)?,
+            settings: Settings {
+                flags: number(flags)?,
+                send: number(send)?,
+                receive: number(receive)?,
+                lifetime: number(lifetime)?,
+            },
         })
     }
 }

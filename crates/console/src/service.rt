@@ -2,11 +2,9 @@
 use crate::command::{Command, Edit, Form};
 use crate::failure::Failure;
 use crate::value::Value;
-use definitions::{
-    ACCOUNT_LIMIT, ACCOUNTS_SIZE, Answer, Descended, Error, Kind, LEDGER_SIZE, LONGEST_RECORD,
-    Ticket, Written,
-};
+use definitions::{ACCOUNT_LIMIT, ACCOUNTS_SIZE, Error, Kind, LEDGER_SIZE, LONGEST_RECORD, Ticket};
 use ledger::LedgerWords;
+use record::Draft;
 use rules::AccountWords;
 use std::alloc::Global;
 
@@ -51,31 +49,25 @@ impl Service {
             Command::Find(name) => self.find(name),
             Command::Request(request) => {
                 let room = request.room.min(OUTPUT_ROOM);
-                self.request(request.bytes.as_slice(), request.clock, room)
+                self.request(&request.bytes, request.clock, room)
             }
             Command::Clear(clock) => {
                 Ok(Value::Number(ledger::clear(&mut self.ledger, clock) as u64))
             }
-            Command::Descent(number) => Ok(Value::Number(u64::from(self.descent(number)?))),
+            Command::Descent(number) => {
+                Ok(Value::Number(u64::from(ledger::descent(&self.ledger, number)?)))
+            }
             Command::Total => Ok(Value::Number(ledger::day_total(&self.ledger))),
             Command::Ledger => self.records(),
             Command::Form(form) => {
                 let bytes = self.write(form)?;
-                self.request(bytes.as_slice(), form.clock, OUTPUT_ROOM)
+                self.request(&bytes, form.clock, OUTPUT_ROOM)
             }
         }
     }
 
     fn edit(&mut self, edit: Edit<'_>) -> Result<Value, Failure> {
-        accepted(ledger::edit(
-            &mut self.accounts,
-            edit.number,
-            edit.name,
-            edit.flags,
-            edit.send,
-            edit.receive,
-            edit.lifetime,
-        ))?;
+        ledger::edit(&mut self.accounts, edit.number, edit.name, edit.settings)?;
         Ok(Value::Nothing)
     }
 
@@ -88,34 +80,27 @@ impl Service {
         }
     }
 
-    fn descent(&self, number: u32) -> Result<u32, Error> {
-        match ledger::descent(&self.ledger, number) {
-            Descended::Steps(steps) => Ok(steps),
-            Descended::Refused(error) => Err(error),
-        }
-    }
-
     // Sends a request, with an output of so many bytes.
     fn request(&mut self, bytes: &[u8], clock: u32, room: usize) -> Result<Value, Failure> {
         let mut output = vec![in self.alloc; 0; room]?;
-        let reply = ledger::request(
+        let granted = ledger::request(
             &mut self.accounts,
             &mut self.ledger,
             bytes,
             clock,
-            output.as_mut_slice(),
-        );
-        accepted(reply.answer)?;
-        output.truncate(reply.length);
-        Ok(Value::Record(hex::encode(self.alloc, output.as_slice())?))
+            &mut output,
+        )?;
+        output.truncate(granted.length);
+        Ok(Value::Record(hex::encode(self.alloc, &output)?))
     }
 
     // The records of the tickets that are held.
     fn records(&self) -> Result<Value, Failure> {
         let mut records = Vec::new(self.alloc);
-        for place in 0..ledger::count_held(&self.ledger) {
-            let record = self.record(ledger::held_at(&self.ledger, place).ticket)?;
-            records.push(hex::encode(self.alloc, record.as_slice())?)?;
+        let places = 0..ledger::count_held(&self.ledger);
+        for ticket in places.filter_map(|place| ledger::held_at(&self.ledger, place)) {
+            let record = self.record(ticket)?;
+            records.push(hex::encode(self.alloc, &record)?)?;
         }
         Ok(Value::Records(records))
     }
@@ -123,7 +108,7 @@ impl Service {
     // The record of a ticket.
     fn record(&self, ticket: Ticket) -> Result<Vec<u8>, Failure> {
         let mut bytes = vec![in self.alloc; 0; LONGEST_RECORD]?;
-        let length = written(record::write_ticket(ticket, bytes.as_mut_slice()))?;
+        let length = record::write_ticket(ticket, &mut bytes)?;
         bytes.truncate(length);
         Ok(bytes)
     }
@@ -138,15 +123,10 @@ impl Service {
 
     // The ticket of a number, or one that no call makes: an initial one without INITIAL.
     fn ticket(&self, number: u16) -> Ticket {
-        let held = ledger::first_held(&self.ledger, number);
-        if held.found {
-            held.ticket
-        } else {
-            Ticket {
-                number,
-                ..record::blank_ticket()
-            }
-        }
+        ledger::first_held(&self.ledger, number).unwrap_or(Ticket {
+            number,
+            ..record::blank_ticket()
+        })
     }
 
     // The bytes of a request.
@@ -157,36 +137,20 @@ impl Service {
             Kind::Initial | Kind::S4U2self => (form.name, b""),
             Kind::Direct | Kind::S4U2proxy => (b"", form.name),
         };
-        let mut bytes = vec![in self.alloc; 0; REQUEST_ROOM]?;
-        let length = written(record::write_request(
-            form.kind as u32 + 1,
-            form.options.unwrap_or(0),
-            form.pac_options.unwrap_or(0),
-            form.till.unwrap_or(0),
-            tgt.as_slice(),
-            evidence.as_slice(),
+        let draft = Draft {
+            kind: u32::from(u8::from(form.kind)),
+            options: form.options.unwrap_or(0),
+            pac_options: form.pac_options.unwrap_or(0),
+            till: form.till.unwrap_or(0),
+            tgt: &tgt,
+            evidence: &evidence,
             user,
             service,
-            form.fields(),
-            bytes.as_mut_slice(),
-        ))?;
+            fields: form.fields(),
+        };
+        let mut bytes = vec![in self.alloc; 0; REQUEST_ROOM]?;
+        let length = record::write_request(draft, &mut bytes)?;
         bytes.truncate(length);
         Ok(bytes)
-    }
-}
-
-// What a call answers that gives no value.
-fn accepted(answer: Answer) -> Result<(), Error> {
-    match answer {
-        Answer::Accepted => Ok(()),
-        Answer::Refused(error) => Err(error),
-    }
-}
-
-// What a writer answers.
-fn written(written: Written) -> Result<usize, Error> {
-    match written {
-        Written::Length(length) => Ok(length),
-        Written::Refused(error) => Err(error),
     }
 }

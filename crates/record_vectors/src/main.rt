@@ -10,13 +10,25 @@
 //
 // One space parts the words. Those after the first are hexadecimal, in lower case, and `-` is no bytes. SIZE is one byte. A VALUE is 31 bytes:
 // number 2, flags 4, client 1, service 1, start 4, end 4, origin 1 (initial 0, direct 1, self 2, delegated 3), TGT 2, evidence 2, hops 1,
-// trail 8, barred 1. The files `stdin` and `stdout` come from a second implementation (harness/src/bin/record_vectors.rs).
+// trail 8, barred 1. A digit that is not hexadecimal counts as 0, and one that is missing too. A line of no form is answered by `?`, and an empty
+// line ends the input, as its end does. The files `stdin` and `stdout` come from a second implementation (harness/src/bin/record_vectors.rs).
 #![tactic(auto)]
 
-use anyhow::{Context, Result, bail};
-use definitions::{Answer, Kind, Origin, Request, Ticket, Window, Written};
-use hex::FromHex;
-use std::alloc::Global;
+ghost use Rattle.std.specs.Prelude.{◌<◌};
+
+use definitions::{Origin, Request, TRAIL_LIMIT, Ticket, Window};
+use std::alloc::{AllocError, Global};
+use std::io;
+use std::io::{BufRead, BufReader, Read};
+
+// The bytes of the longest line; a longer one is as many lines as it has such parts.
+const LONGEST_LINE: usize = 1024;
+
+// The bytes of the longest record or request; those that follow them are not read.
+const LONGEST_WORD: usize = 320;
+
+// The bytes of the longest output; there is no answer for a longer one.
+const LONGEST_OUTPUT: usize = 40;
 
 // A line of the input.
 #[derive(Drop)]
@@ -29,29 +41,30 @@ enum Vector {
 }
 
 impl Vector {
-    fn parse(alloc: Global, line: &str) -> Result<Self> {
-        let words = line.split(' ').collect::<Vec<&str>>(alloc)?;
-        Ok(match words.as_slice() {
-            ["ticket", record] => Vector::Ticket(bytes_of(alloc, record)?),
-            ["write", size, record] => Vector::Write(size_of(size)?, bytes_of(alloc, record)?),
-            ["value", size, value] => Vector::Value(size_of(size)?, ticket_of(value)?),
-            ["same", left, right] => Vector::Same(ticket_of(left)?, ticket_of(right)?),
-            ["request", request] => Vector::Request(bytes_of(alloc, request)?),
-            _ => bail!("no vector has this form"),
-        })
+    // The first letter of a line tells its form, and each form has its words at fixed places.
+    fn parse(alloc: Global, line: &[u8]) -> Result<Option<Self>, AllocError> {
+        Ok(Some(match line {
+            [b't', ..] => Vector::Ticket(Digits::of(line, 7).bytes(alloc)?),
+            [b'w', ..] => Vector::Write(
+                Digits::of(line, 6).byte(),
+                Digits::of(line, 9).bytes(alloc)?,
+            ),
+            [b'v', ..] => Vector::Value(Digits::of(line, 6).byte(), Digits::of(line, 9).ticket()),
+            [b's', ..] => Vector::Same(Digits::of(line, 5).ticket(), Digits::of(line, 68).ticket()),
+            [b'r', ..] => Vector::Request(Digits::of(line, 8).bytes(alloc)?),
+            _ => return Ok(None),
+        }))
     }
 
-    fn answer(&self, alloc: Global) -> Result<String> {
+    fn answer(&self, alloc: Global) -> Result<String, AllocError> {
         match self {
             Vector::Ticket(record) => ticket_answer(alloc, record),
             Vector::Write(size, record) => {
-                written_answer(alloc, record::read_ticket(record).ticket, *size)
+                let ticket = record::read_ticket(record).unwrap_or(record::blank_ticket());
+                written_answer(alloc, ticket, *size)
             }
             Vector::Value(size, ticket) => written_answer(alloc, *ticket, *size),
-            Vector::Same(left, right) => {
-                let same = u8::from(record::same_ticket(*left, *right));
-                Ok(format!(in alloc; "{same}")?)
-            }
+            Vector::Same(left, right) => format!(in alloc; "{}", u8::from(left == right)),
             Vector::Request(bytes) => request_answer(alloc, bytes),
         }
     }
@@ -59,88 +72,116 @@ impl Vector {
 
 // ---- Words of a line.
 
-fn bytes_of(alloc: Global, word: &str) -> Result<Vec<u8>> {
-    if word == "-" {
-        return Ok(Vec::new(alloc));
+// The digits that a line has from a position on.
+#[derive(Clone, Copy)]
+struct Digits<'a> {
+    rest: &'a [u8],
+}
+
+impl<'a> Digits<'a> {
+    fn of(line: &'a [u8], position: usize) -> Self {
+        Digits {
+            rest: line.get(position..).unwrap_or(b""),
+        }
     }
-    Ok(hex::decode(alloc, word)?)
+
+    // The byte of the first two digits.
+    fn byte(self) -> u8 {
+        match self.rest {
+            [] => 0,
+            [high] => 16 * digit_value(*high),
+            [high, low, ..] => 16 * digit_value(*high) + digit_value(*low),
+        }
+    }
+
+    // The bytes of all digits, two a byte.
+    fn bytes(self, alloc: Global) -> Result<Vec<u8>, AllocError> {
+        self.rest
+            .chunks_exact(2)
+            .take(LONGEST_WORD)
+            .map(|rest| Digits { rest }.byte())
+            .collect(alloc)
+    }
+
+    // Takes the digits of some bytes from the front.
+    fn take<const N: usize>(&mut self) -> [u8; N] {
+        let mut bytes = [0; N];
+        for byte in &mut bytes {
+            *byte = self.byte();
+            *self = Digits::of(self.rest, 2);
+        }
+        bytes
+    }
+
+    // The ticket of a value.
+    fn ticket(mut self) -> Ticket {
+        let number = u16::from_be_bytes(self.take());
+        let flags = u32::from_be_bytes(self.take());
+        let [client, service] = self.take::<2>();
+        let start = u32::from_be_bytes(self.take());
+        let end = u32::from_be_bytes(self.take());
+        let [origin] = self.take::<1>();
+        let tgt = u16::from_be_bytes(self.take());
+        let evidence = u16::from_be_bytes(self.take());
+        let [hops] = self.take::<1>();
+        let trail = self.take();
+        let [barred] = self.take::<1>();
+        Ticket {
+            number,
+            flags,
+            client,
+            service,
+            window: Window { start, end },
+            origin: match origin {
+                0 => Origin::Initial,
+                1 => Origin::Direct(tgt),
+                2 => Origin::S4U2self(tgt),
+                _ => Origin::Delegated(tgt, evidence),
+            },
+            trail,
+            hops,
+            barred: barred == 1,
+        }
+    }
 }
 
-fn size_of(word: &str) -> Result<u8> {
-    Ok(u8::from_str_radix(word, 16)?)
-}
-
-// The next bytes of a value.
-fn next<const N: usize>(rest: &mut &[u8]) -> Result<[u8; N]> {
-    let (first, behind) = rest
-        .split_first_chunk()
-        .context("a value that ends too soon")?;
-    *rest = behind;
-    Ok(*first)
-}
-
-fn ticket_of(word: &str) -> Result<Ticket> {
-    let value = <[u8; 31] as FromHex>::from_hex(word)?;
-    let mut rest = value.as_slice();
-    let number = u16::from_be_bytes(next(&mut rest)?);
-    let flags = u32::from_be_bytes(next(&mut rest)?);
-    let [client, service] = next::<2>(&mut rest)?;
-    let start = u32::from_be_bytes(next(&mut rest)?);
-    let end = u32::from_be_bytes(next(&mut rest)?);
-    let [origin] = next::<1>(&mut rest)?;
-    let tgt = u16::from_be_bytes(next(&mut rest)?);
-    let evidence = u16::from_be_bytes(next(&mut rest)?);
-    let [hops] = next::<1>(&mut rest)?;
-    let trail = next(&mut rest)?;
-    let [barred] = next::<1>(&mut rest)?;
-    Ok(Ticket {
-        number,
-        flags,
-        client,
-        service,
-        window: Window { start, end },
-        origin: match origin {
-            0 => Origin::Initial,
-            1 => Origin::Direct(tgt),
-            2 => Origin::S4U2self(tgt),
-            3 => Origin::Delegated(tgt, evidence),
-            _ => bail!("no origin has the number {origin}"),
-        },
-        trail,
-        hops,
-        barred: barred == 1,
-    })
+// The value of a hexadecimal digit in lower case, 0 of another byte.
+// Form: a match by hand, since `to_digit` and the crate `hex` take capitals too.
+fn digit_value(digit: u8) -> u8
+    ensures { result < 16 }
+{
+    match digit {
+        b'0'..=b'9' => digit - b'0',
+        b'a'..=b'f' => digit - b'a' + 10,
+        _ => 0,
+    }
 }
 
 // ---- Words of an answer.
 
 // Two digits a byte, or `-` where there is none.
-fn spelled(alloc: Global, bytes: &[u8]) -> Result<String> {
+fn spelled(alloc: Global, bytes: &[u8]) -> Result<String, AllocError> {
     if bytes.is_empty() {
-        return Ok(String::from_str(alloc, "-")?);
+        return String::from_str(alloc, "-");
     }
-    Ok(hex::encode(alloc, bytes)?)
+    hex::encode(alloc, bytes)
 }
 
 // What the reader of tickets answers, and the fields of a ticket that it reads: back numbers that there are none of as 0, and of the trail its
 // accounts.
-fn ticket_answer(alloc: Global, record: &[u8]) -> Result<String> {
-    let reading = record::read_ticket(record);
-    if let Answer::Refused(error) = reading.answer {
-        return Ok(format!(in alloc; "{}", record::error_number(error))?);
-    }
-    let ticket = reading.ticket;
+fn ticket_answer(alloc: Global, record: &[u8]) -> Result<String, AllocError> {
+    let ticket = match record::read_ticket(record) {
+        Ok(ticket) => ticket,
+        Err(error) => return format!(in alloc; "{}", u32::from(error)),
+    };
     let (origin, tgt, evidence) = match ticket.origin {
         Origin::Initial => ("initial", 0, 0),
         Origin::Direct(tgt) => ("direct", tgt, 0),
         Origin::S4U2self(tgt) => ("self", tgt, 0),
         Origin::Delegated(tgt, evidence) => ("delegated", tgt, evidence),
     };
-    let accounts = ticket
-        .trail
-        .get(..usize::from(ticket.hops))
-        .context("a trail longer than its places")?;
-    Ok(format!(in alloc;
+    let accounts = &ticket.trail[..usize::from(ticket.hops).min(TRAIL_LIMIT)];
+    format!(in alloc;
         "0 number={} flags={:08x} client={} service={} start={} end={} origin={origin} tgt={tgt} evidence={evidence} trail={} barred={}",
         ticket.number,
         ticket.flags,
@@ -150,26 +191,27 @@ fn ticket_answer(alloc: Global, record: &[u8]) -> Result<String> {
         ticket.window.end,
         spelled(alloc, accounts)?,
         u8::from(ticket.barred)
-    )?)
+    )
 }
 
 // What the writer answers for an output of so many bytes, and the output after it.
-fn written_answer(alloc: Global, ticket: Ticket, size: u8) -> Result<String> {
-    let mut output = vec![in alloc; 0xEE; usize::from(size)]?;
-    let number = match record::write_ticket(ticket, &mut output) {
-        Written::Length(length) => length,
-        Written::Refused(error) => record::error_number(error) as usize,
-    };
-    Ok(format!(in alloc; "{number} {}", spelled(alloc, &output)?)?)
+fn written_answer(alloc: Global, ticket: Ticket, size: u8) -> Result<String, AllocError> {
+    let size = usize::from(size);
+    if size > LONGEST_OUTPUT {
+        return Ok(String::new(alloc));
+    }
+    let mut output = vec![in alloc; 0xEE; size]?;
+    let answer = record::write_ticket(ticket, &mut output);
+    let output = spelled(alloc, &output)?;
+    match answer {
+        Ok(length) => format!(in alloc; "{length} {output}"),
+        Err(error) => format!(in alloc; "{} {output}", u32::from(error)),
+    }
 }
 
 // What the reader of requests answers, and the fields of a request that it reads: a ticket by its number, a name by where it starts and how many
 // bytes it has.
-fn request_answer(alloc: Global, bytes: &[u8]) -> Result<String> {
-    let reading = record::read_request(bytes);
-    if let Answer::Refused(error) = reading.answer {
-        return Ok(format!(in alloc; "{}", record::error_number(error))?);
-    }
+fn request_answer(alloc: Global, bytes: &[u8]) -> Result<String, AllocError> {
     let Request {
         kind,
         options,
@@ -179,25 +221,51 @@ fn request_answer(alloc: Global, bytes: &[u8]) -> Result<String> {
         evidence,
         user,
         service,
-    } = reading.request;
-    let kind = match kind {
-        Kind::Initial => 1,
-        Kind::Direct => 2,
-        Kind::S4U2self => 3,
-        Kind::S4U2proxy => 4,
+    } = match record::read_request(bytes) {
+        Ok(request) => request,
+        Err(error) => return format!(in alloc; "{}", u32::from(error)),
     };
-    Ok(format!(in alloc;
-        "0 kind={kind} options={options:08x} pac={pac_options:08x} till={till} tgt={} evidence={} user={}+{} service={}+{}",
-        tgt.number, evidence.number, user.at, user.len, service.at, service.len
-    )?)
+    format!(in alloc;
+        "0 kind={} options={options:08x} pac={pac_options:08x} till={till} tgt={} evidence={} user={}+{} service={}+{}",
+        u8::from(kind),
+        tgt.number,
+        evidence.number,
+        user.at,
+        user.len,
+        service.at,
+        service.len
+    )
 }
 
-fn main(rt: HostRuntime) -> Result<()> {
+// ---- Lines.
+
+// Prints a line and its answer.
+fn answer_line(rt: &impl Print, alloc: Global, line: &[u8]) -> io::Result<()> {
+    rt.write_all(line)?;
+    match Vector::parse(alloc, line)? {
+        Some(vector) => println!(rt; " -> {}", vector.answer(alloc)?),
+        None => println!(rt; " -> ?"),
+    }
+}
+
+// Nothing says that an input ends, so the turns are bounded, by a number that no run reaches.
+fn main(rt: HostRuntime) -> io::Result<()> {
     let alloc = rt.alloc();
-    for line in rt.lines(alloc) {
-        let line = line?;
-        let vector = Vector::parse(alloc, &line).context(format_args!("reading {line:?}"))?;
-        println!(rt; "{line} -> {}", vector.answer(alloc)?)?;
+    let mut input = BufReader::new(alloc, rt.reader())?;
+    let mut line = Vec::new(alloc);
+    for _ in 0..u64::MAX {
+        line.clear();
+        input
+            .by_ref()
+            .take(LONGEST_LINE as u64)
+            .read_until(b'\n', &mut line)?;
+        if line.last() == Some(&b'\n') {
+            line.pop();
+        }
+        if line.is_empty() {
+            break;
+        }
+        answer_line(&rt, alloc, &line)?;
     }
     Ok(())
 }
