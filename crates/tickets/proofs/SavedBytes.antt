@@ -10,7 +10,7 @@ use native.Mathlib.Numerals.{add-one}
 use native.Mathlib.Omega.{arith}
 use lib.ListN.{length, get_or, take, drop, set}
 use lib.Seq.{sets, sets-eq, take-suc-set, length-take-le, get_or-take, get_or-drop, drop-drop}
-use borrow.Author.Tests.{le-leb, lt-leb}
+use borrow.Author.Tests.{le-leb}
 use mir.Syntax.{w8}
 use mir.Val.{Fits}
 use Rattle.definitions.specs.Limits.{accounts_size, ledger_size, word_size, saved_magic, layout_number, accounts_place, ledger_place, sum_place, saved_size}
@@ -107,11 +107,6 @@ module _ (l : List ℕ) (v : Service) (a : length v.accounts ≡ accounts_size) 
         let size : length (saved_body v ++ S) ≡ saved_size = length-saved v a b in
         ap₂ (λ (x y : ℕ). sets (sets l 0 (saved_body v)) sum_place (word_bytes (x ∷ y ∷ []))) (sum-put (λ k. 1)) (sum-put counted_place)
         ∙ sym behind ∙ sets-eq (saved_body v ++ S) l 0 (rw size (omega arith)) ∙ rw (size, le-leb saved_size (length l) room)
-
--- an output that is too short stays
-pub save-short : (l : List ℕ) (v : Service) → length l < saved_size → l ≡ save_output v l
-unfolding save_output
-save-short l v h = rw (lt-leb saved_size (length l) h)
 
 -- ---- Loading
 -- a word more

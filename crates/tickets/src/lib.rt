@@ -260,6 +260,7 @@ pub type AccountFields = [u64; 6];
 pub type TicketFields = [u64; 19];
 
 // An account: its numbers and its name, or 60.
+#[tactic(auto, using(crate::proofs::Calls::flag_number))]
 #[unsafe(no_mangle)]
 pub extern "C" fn tickets_account(
     accounts: &AccountWords,
@@ -326,6 +327,7 @@ fn origin_kind(origin: Origin) -> Kind
 }
 
 // The numbers of a ticket.
+#[tactic(auto, using(crate::proofs::Calls::flag_number), unfolding(definitions::specs::Fields::run))]
 fn ticket_fields(ticket: Ticket) -> TicketFields
     ensures { result ≡ ticket_fields ticket }
 {
@@ -381,6 +383,7 @@ pub extern "C" fn tickets_layout() -> u32
 }
 
 // Saves the service to the output's start: how many bytes it takes, or 52.
+#[tactic(auto, unfolding(definitions::specs::Saving::save_output))]
 #[unsafe(no_mangle)]
 pub extern "C" fn tickets_save(
     accounts: &AccountWords,
