@@ -164,7 +164,7 @@ pub const VALUES: &[Change] = &[
         "TICKETS_TICKET_LIMIT",
     ),
     change(
-        "crates/record/src/errors.rt",
+        "crates/definitions/src/error.rt",
         "Error::KRB_ERR_GENERIC => 60",
         "Error::KRB_ERR_GENERIC => 62",
         "TICKETS_KRB_ERR_GENERIC",

@@ -25,17 +25,20 @@ const SAME: [(&str, &str); 12] = [
     ("TICKETS_VERSION_TEXT", "VERSION"),
 ];
 
-/// The constants of the header that are one bit, and the function that tests it.
-const BITS: [(&str, &str); 8] = [
-    ("TICKETS_FLAG_DISABLED", "is_enabled"),
-    ("TICKETS_FLAG_BARRED", "is_barred"),
-    ("TICKETS_FLAG_TRUSTED", "is_trusted"),
-    ("TICKETS_FLAG_SERVICE", "is_service"),
-    ("TICKETS_KDC_OPT_FORWARDABLE", "asks_forwardable"),
-    ("TICKETS_KDC_OPT_CNAME_IN_ADDL_TKT", "has_cname_in_addl_tkt"),
-    ("TICKETS_PAC_OPT_RESOURCE_BASED_CONSTRAINED_DELEGATION", "is_resource_based"),
-    ("TICKETS_TKT_FLG_FORWARDABLE", "is_forwardable"),
+/// The constants of the header that are one bit, and the variant that has its number.
+const BITS: [(&str, &str, &str); 8] = [
+    ("TICKETS_FLAG_DISABLED", "Flag", "Disabled"),
+    ("TICKETS_FLAG_BARRED", "Flag", "Barred"),
+    ("TICKETS_FLAG_TRUSTED", "Flag", "Trusted"),
+    ("TICKETS_FLAG_SERVICE", "Flag", "Service"),
+    ("TICKETS_KDC_OPT_CNAME_IN_ADDL_TKT", "Bit", "CnameInAddlTkt"),
+    ("TICKETS_TKT_FLG_INITIAL", "Bit", "Initial"),
+    ("TICKETS_PAC_OPT_RESOURCE_BASED_CONSTRAINED_DELEGATION", "Bit", "ResourceBased"),
+    ("TICKETS_TKT_FLG_FORWARDABLE", "Bit", "Forwardable"),
 ];
+
+/// The constant of the header that is the bit of another: the option is asked for by the flag's bit.
+const SAME_BIT: (&str, &str) = ("TICKETS_KDC_OPT_FORWARDABLE", "TICKETS_TKT_FLG_FORWARDABLE");
 
 /// The bytes of the longest name in a request: what a length byte counts to.
 const LONGEST_COUNTED: u64 = 255;
@@ -67,7 +70,7 @@ pub fn read(crates: &Crates) -> Side {
         let read = exported(&mut side, crates, &crates.tickets[start + EXPORTED.len()..]);
         side.note(read);
     }
-    for read in [constants, error_numbers, kinds, request_fields, ticket_flags] {
+    for read in [constants, bits, error_numbers, kinds, request_fields] {
         let read = read(&mut side, crates);
         side.note(read);
     }
@@ -203,42 +206,49 @@ fn constants(side: &mut Side, crates: &Crates) -> Result<(), String> {
             side.put(constant, value);
         }
     }
-    for (constant, name) in BITS {
-        let tested = numbers_of_body(&crates.all, name)?;
-        match tested[..] {
-            [bit] => side.put(constant, 1 << bit),
-            _ => side.findings.push(format!("crate: the bit that {name} tests is not known")),
+    Ok(())
+}
+
+/// The bits of accounts' flags, of options and of tickets' flags, from the variants' numbers.
+fn bits(side: &mut Side, crates: &Crates) -> Result<(), String> {
+    for (constant, kind, name) in BITS {
+        let variants = variants(&crates.all, kind)?;
+        let bit = variants.get(name).ok_or(format!("crate: {kind} has no {name}"))?;
+        side.put(constant, 1 << bit);
+        if constant == SAME_BIT.1 {
+            side.put(SAME_BIT.0, 1 << bit);
         }
     }
     Ok(())
 }
 
-/// The body of a function, without its contract.
-fn body<'w, 't>(words: &'w [&'t str], name: &str) -> Result<&'w [&'t str], String> {
-    let rest = behind(words, &["fn", name])?;
-    let mut at = closing(rest, 0)? + 1;
-    while rest[at] != "{" {
-        let is_contract = matches!(rest[at], "ensures" | "requires");
-        let skipped = rest[at..].iter().position(|word| *word == "{");
-        at = match (is_contract, skipped) {
-            (true, Some(start)) => closing(rest, at + start)? + 1,
-            _ => at + 1,
-        };
-    }
-    Ok(&rest[at + 1..closing(rest, at)?])
+/// The variants of an enum that has a number beside each.
+fn variants<'t>(words: &[&'t str], kind: &str) -> Result<BTreeMap<&'t str, u64>, String> {
+    let rest = behind(words, &["enum", kind])?;
+    let unknown = |variant: &[&str]| format!("crate: `{}` in {kind} is not known", variant.join(" "));
+    parts(&rest[1..closing(rest, 0)?])
+        .into_iter()
+        .map(|variant| match variant {
+            [name, "=", value] => {
+                number(value).map(|value| (*name, value)).ok_or(unknown(variant))
+            }
+            _ => Err(unknown(variant)),
+        })
+        .collect()
 }
 
-fn numbers_of_body(words: &[&str], name: &str) -> Result<Vec<u64>, String> {
-    Ok(body(words, name)?.iter().filter_map(|word| number(word)).collect())
-}
-
-/// The arms `Kind::Name => number` of a function that is one match.
-fn arms<'t>(words: &[&'t str], function: &str) -> Result<BTreeMap<&'t str, u64>, String> {
-    let body = body(words, function)?;
-    let ["match", _, "{", arms @ .., "}"] = body else {
-        return Err(format!("crate: {function} is not one match"));
+/// The numbers that an enum's variants become: the arms `Kind::Name => number` of its conversion.
+fn arms<'t>(
+    words: &[&'t str],
+    from: &str,
+    into: &str,
+) -> Result<BTreeMap<&'t str, u64>, String> {
+    let conversion = behind(words, &["impl", "From", "<", from, ">", "for", into])?;
+    let conversion = &conversion[1..closing(conversion, 0)?];
+    let unknown = |arm: &[&str]| format!("crate: `{}` of {from} is not known", arm.join(" "));
+    let [_, "{", arms @ .., "}", "}"] = behind(conversion, &["match"])? else {
+        return Err(format!("crate: the numbers of {from} are not one match"));
     };
-    let unknown = |arm: &[&str]| format!("crate: `{}` in {function} is not known", arm.join(" "));
     parts(arms)
         .into_iter()
         .map(|arm| match arm {
@@ -251,14 +261,14 @@ fn arms<'t>(words: &[&'t str], function: &str) -> Result<BTreeMap<&'t str, u64>,
 }
 
 fn error_numbers(side: &mut Side, crates: &Crates) -> Result<(), String> {
-    for (name, value) in arms(&crates.all, "error_number")? {
+    for (name, value) in arms(&crates.all, "Error", "u32")? {
         side.put(&format!("TICKETS_{name}"), value);
     }
     Ok(())
 }
 
 fn kinds(side: &mut Side, crates: &Crates) -> Result<(), String> {
-    for (name, value) in arms(&crates.tickets, "kind_number")? {
+    for (name, value) in arms(&crates.all, "Kind", "u8")? {
         side.put(&format!("TICKETS_KIND_{}", name.to_uppercase()), value);
     }
     Ok(())
@@ -299,16 +309,4 @@ fn request_fields(side: &mut Side, crates: &Crates) -> Result<(), String> {
         map + stands.map(|(_, (head, rest))| head + rest).sum::<u64>(),
     );
     Ok(())
-}
-
-/// The flags of a new ticket: both, FORWARDABLE, INITIAL, none.
-fn ticket_flags(side: &mut Side, crates: &Crates) -> Result<(), String> {
-    match numbers_of_body(&crates.all, "flags_of")?[..] {
-        [both, forwardable, initial, 0] if both == forwardable | initial => {
-            side.put("TICKETS_TKT_FLG_FORWARDABLE", forwardable);
-            side.put("TICKETS_TKT_FLG_INITIAL", initial);
-            Ok(())
-        }
-        _ => Err("crate: the flags of a new ticket are not known".to_string()),
-    }
 }
