@@ -34,7 +34,8 @@ What the columns are, and where the library stands, is in docs/PERFORMANCE.md.
 
 /// The sentence that names the toolchain by which the library was made, if `rt version` tells it.
 fn toolchain() -> String {
-    let said = Command::new("rt").arg("version").output().map(|said| said.stdout).unwrap_or_default();
+    let said =
+        Command::new("rt").arg("version").output().map(|said| said.stdout).unwrap_or_default();
     match String::from_utf8_lossy(&said).split_whitespace().next() {
         Some(kit) => format!("\nThe library was made with {kit}.\n"),
         None => String::new(),

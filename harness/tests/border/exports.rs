@@ -225,24 +225,19 @@ fn bits(side: &mut Side, crates: &Crates) -> Result<(), String> {
 /// The variants of an enum that has a number beside each.
 fn variants<'t>(words: &[&'t str], kind: &str) -> Result<BTreeMap<&'t str, u64>, String> {
     let rest = behind(words, &["enum", kind])?;
-    let unknown = |variant: &[&str]| format!("crate: `{}` in {kind} is not known", variant.join(" "));
+    let unknown =
+        |variant: &[&str]| format!("crate: `{}` in {kind} is not known", variant.join(" "));
     parts(&rest[1..closing(rest, 0)?])
         .into_iter()
         .map(|variant| match variant {
-            [name, "=", value] => {
-                number(value).map(|value| (*name, value)).ok_or(unknown(variant))
-            }
+            [name, "=", value] => number(value).map(|value| (*name, value)).ok_or(unknown(variant)),
             _ => Err(unknown(variant)),
         })
         .collect()
 }
 
 /// The numbers that an enum's variants become: the arms `Kind::Name => number` of its conversion.
-fn arms<'t>(
-    words: &[&'t str],
-    from: &str,
-    into: &str,
-) -> Result<BTreeMap<&'t str, u64>, String> {
+fn arms<'t>(words: &[&'t str], from: &str, into: &str) -> Result<BTreeMap<&'t str, u64>, String> {
     let conversion = behind(words, &["impl", "From", "<", from, ">", "for", into])?;
     let conversion = &conversion[1..closing(conversion, 0)?];
     let unknown = |arm: &[&str]| format!("crate: `{}` of {from} is not known", arm.join(" "));
