@@ -30,7 +30,7 @@ use lib.Bits.{bit_or, or_add_and, and_le_l}
 use Rattle.definitions.specs.Requests.{request_layout, needed_bits, path_of}
 use Rattle.record.specs.Drafts.{size_of}
 use Rattle.definitions.specs.RequestWriting.{RequestParts, map_of_parts, part_values, writable, request_of, request_written, request_output}
-use Rattle.std.specs.Prelude.{Option, Some, None, is_some, Result, Ok, Err}
+use Rattle.std.specs.Prelude.{Option, Some, None, Ok, Err}
 use Rattle.definitions.proofs.Requests.{allowed-small, path-above, path-other}
 
 -- ---- Taking
