@@ -40,7 +40,8 @@ fn answer(rt: &impl Print, service: &mut Service, line: &[u8], number: u64) -> i
     }
 }
 
-// Reads and answers lines until the input ends. Nothing says that an input ends, so the turns are bounded, by a number that no run uses up.
+// Reads and answers lines until the input ends.
+// Form: the lines are counted, since nothing says that an input ends, and a wrong line is told by its number.
 fn serve(
     rt: &impl Print,
     service: &mut Service,

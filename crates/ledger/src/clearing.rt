@@ -20,7 +20,8 @@ pub(crate) fn stays_at(words: &LedgerWords, i: usize, clock: u32) -> bool
     !Place { index: i }.window(words).ended(clock)
 }
 
-// The first place of n whose ticket goes. By `find` each place takes an instruction more.
+// The first place of n whose ticket goes.
+// Form: a loop and no `find`, by which each place takes an instruction more.
 fn first_ended(words: &LedgerWords, n: usize, clock: u32) -> Option<usize>
     requires { n ≤ ticket_limit }
     ensures { IsFirstGone words.now clock n result }

@@ -8,6 +8,7 @@ use definitions::{Origin, TWO_32, TWO_40, TWO_48, TWO_56, TWO_60, Ticket};
 use rules::{evidence_of, tgt_of, trail_word};
 
 // The tag of an origin.
+// Form: a match and no From, since the tag is a matter of the ledger's words, and neither type is this crate's.
 fn tag_of(o: Origin) -> u64
     ensures exact { result ≡ tag_of o }
     ensures bounded { result < 4 }

@@ -215,7 +215,8 @@ impl Place {
         words[NUMBERS_START + k] = with_number(word, self.index % NUMBERS_IN_WORD, number);
     }
 
-    // Puts its four words, one by one: `copy_from_slice` takes nine instructions more for each place that a clearing moves.
+    // Puts its four words.
+    // Form: one by one and no `copy_from_slice`, by which each place that a clearing moves takes nine instructions more.
     pub(crate) fn put_row(self, words: &mut LedgerWords, row: &Row)
         ensures { words.new ≡ put_row words.old (place_start self.index) row.now }
     {

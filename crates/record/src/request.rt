@@ -28,6 +28,7 @@ pub(crate) const LAYOUT: [Field; 8] = [
 ];
 
 // The map bits that a kind needs.
+// Form: a kind is a number here, as bytes and callers give it; it becomes a `Kind` in `path_of`, whose match and tables are a rule of the project.
 pub(crate) fn needed_bits(kind: usize) -> u16
     requires { kind < 5 }
     ensures exact { result ≡ needed_bits kind }

@@ -14,6 +14,7 @@ use crate::writer::put;
 use definitions::{Error, TWO_8, TWO_32};
 
 // What a request is written from: four numbers, the records of two tickets, two names, and a mask of the optional fields that stand.
+// Form: numbers for the kind and for what stands, and no `Kind` and Options, since any are taken, and what no request can have is refused (R4.8).
 #[derive(Clone, Copy)]
 pub struct Draft<'a> {
     pub kind: u32,

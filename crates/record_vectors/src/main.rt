@@ -248,7 +248,7 @@ fn answer_line(rt: &impl Print, alloc: Global, line: &[u8]) -> io::Result<()> {
     }
 }
 
-// Nothing says that an input ends, so the turns are bounded, by a number that no run reaches.
+// Form: the turns are counted, since nothing says that an input ends, and every loop has to.
 fn main(rt: HostRuntime) -> io::Result<()> {
     let alloc = rt.alloc();
     let mut input = BufReader::new(alloc, rt.reader())?;

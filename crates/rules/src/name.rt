@@ -100,11 +100,11 @@ pub(crate) fn find_packed(words: &AccountWords, name: Name) -> Option<usize>
 }
 
 // The account that a name stands for, one past the last where it is unknown.
+// Form: 64 and no Option, since R2.11 has that answer.
 pub fn find_name(words: &AccountWords, bytes: &[u8]) -> usize
     ensures exact { result ≡ find_name (table_of words.now) bytes.now }
     ensures bounded { result ≤ account_limit }
 {
-    // One past the last, as R2.7 and the callers have it.
     find_packed(words, pack_name(bytes)).unwrap_or(ACCOUNT_LIMIT)
 }
 
