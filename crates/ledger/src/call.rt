@@ -43,6 +43,7 @@ pub fn edit(
 }
 
 // What a question is answered: by its request's kind, with only that looked up which the kind presents.
+// Form: a match and no table of functions, since a kind looks up what it presents and no more.
 fn decide_read(question: &Question<'_>, held: HeldTickets) -> Result<Ticket, Error>
     ensures { result ≡ decide_read (table_of question.now.accounts.now) (tickets_of held.entry.words.now) question.now.bytes.now question.now.moment question.now.request.now }
 {

@@ -13,6 +13,7 @@ use definitions::{
 };
 
 // The words of the header, of all numbers and of all places.
+// Form: an array of words and no Vec or map, since the caller lends fixed memory; the numbers stand beside the places, since a look-up scans them alone.
 pub type LedgerWords = [u64; LEDGER_SIZE];
 
 // The four words of a place.
@@ -39,6 +40,7 @@ pub(crate) fn next_number(words: &LedgerWords) -> u64
 }
 
 // Puts the count.
+// Form: it and the next are two functions, so that each word has its name and no offset is seen.
 pub(crate) fn put_count(words: &mut LedgerWords, n: usize)
     ensures { words.new ≡ set words.old count_word n }
 {

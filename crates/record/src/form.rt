@@ -19,6 +19,7 @@ pub struct Form<'a> {
 
 impl<'a> Form<'a> {
     // Takes the field of a map bit at the cursor: the number in its head, 0 where it does not stand.
+    // Form: the bit is a number with a `requires` here and below, since each caller writes it out, and a type would be made of it there.
     pub fn take(self, bytes: &[u8], bit: usize, at: &mut usize) -> u32
         requires row { bit < length self.layout.now }
         requires start { at.old ≡ offset_of self.layout.now bytes.now self.map bit }

@@ -60,16 +60,13 @@ pub fn pack_name(bytes: &[u8]) -> Name
 pub fn name_in(bytes: &[u8], span: Span) -> Name
     ensures { result ≡ name_of (part_of bytes.now span) }
 {
-    let at = span.at;
-    let len = span.len;
     let end = bytes.len();
-    if end <= at {
+    if end <= span.at {
         return pack_name(&bytes[end..]);
     }
-    if len < end - at {
-        let to = at + len;
-        pack_name(&bytes[at..to])
+    if span.len < end - span.at {
+        pack_name(&bytes[span.at..span.at + span.len])
     } else {
-        pack_name(&bytes[at..])
+        pack_name(&bytes[span.at..])
     }
 }

@@ -44,9 +44,7 @@ fn service_fits(map: u16, service: u8) -> bool
 fn well_formed(t: Ticket, map: u16) -> bool
     ensures { result ≡ well_formed t map }
 {
-    let hops = t.hops;
-    let trail = t.trail;
-    service_fits(map, t.service) && hops_fit(map, hops) && zero_behind(trail, hops)
+    service_fits(map, t.service) && hops_fit(map, t.hops) && zero_behind(t.trail, t.hops)
 }
 
 // Puts a number at the cursor, big-endian, in so many bytes.
@@ -91,9 +89,7 @@ fn put_record(out: &mut [u8], t: Ticket, map: u16) -> usize
     form.put(out, &mut at, 5, t.window.end, b"");
     form.put(out, &mut at, 6, tgt_of(t.origin) as u32, b"");
     form.put(out, &mut at, 7, evidence_of(t.origin) as u32, b"");
-    let hops = t.hops;
-    let trail = t.trail;
-    form.put(out, &mut at, 8, hops as u32, &trail[..hops as usize]);
+    form.put(out, &mut at, 8, t.hops as u32, &t.trail[..t.hops as usize]);
     at
 }
 
@@ -102,8 +98,7 @@ pub fn write_ticket(t: Ticket, out: &mut [u8]) -> Result<usize, Error>
     ensures answer { result ≡ written_of t (length out.old) }
     ensures output { out.new ≡ output_of t out.old }
 {
-    let origin = t.origin;
-    let map = map_for(origin, t.barred);
+    let map = map_for(t.origin, t.barred);
     if !well_formed(t, map) {
         return Err(Error::KRB_ERR_GENERIC);
     }

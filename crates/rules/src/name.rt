@@ -11,6 +11,7 @@ use definitions::{ACCOUNT_LIMIT, Name};
 use record::{pack_name, set_length};
 
 // Whether the bytes of two words agree, with letter case ignored or not.
+// Form: a flag and no closure, since the definition has the same flag, and one proof serves both.
 fn words_agree(ignore: bool, a: u64, b: u64) -> bool
     ensures { result ≡ words_agree ignore a b }
 {

@@ -10,6 +10,7 @@ use crate::words::{AccountWords, Row, set_row};
 use definitions::NAME_LIMIT;
 
 // The bytes that a name has room in, 0 behind it.
+// Form: an array and no String, since the C interface lends it.
 pub type NameBytes = [u8; NAME_LIMIT];
 
 impl Row<'_> {

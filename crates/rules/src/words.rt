@@ -12,6 +12,7 @@ use definitions::{
 use record::set_length;
 
 // The words of the header and of all rows.
+// Form: an array of words and no map, since the caller lends fixed memory.
 pub type AccountWords = [u64; ACCOUNTS_SIZE];
 
 // The row of an account's number.
@@ -101,6 +102,7 @@ pub(crate) fn put_row(words: &mut AccountWords, number: usize, row: [u64; 6])
 }
 
 // A table with no account set (R7.2).
+// Form: a line of its own beside the ledger's, since each array has its crate and its definition.
 pub fn fresh_accounts(words: &mut AccountWords)
     ensures { words.new ≡ no_account_words }
 {

@@ -315,6 +315,7 @@ pub extern "C" fn tickets_record_at(
 }
 
 // The kind of request that makes a ticket of an origin.
+// Form: a match and no From, since the C interface alone tells an origin so, and neither type is this crate's.
 fn origin_kind(origin: Origin) -> Kind
     ensures { kind_number result ≡ origin_kind origin }
 {
