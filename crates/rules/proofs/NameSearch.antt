@@ -24,7 +24,7 @@ use Rattle.definitions.specs.declared.account.Name.{Name}
 use Rattle.rules.specs.Lanes.{all_lanes}
 use Rattle.std.specs.List.{find, range_with_len}
 use Rattle.std.specs.Prelude.{Option, Some, None, is_some, unwrap_or}
-use Rattle.rules.specs.NameSearch.{words_of, bytes_of, words_agree, cut_word, has_name, is_other, first_match}
+use Rattle.rules.specs.NameSearch.{first_bytes, words_of, bytes_of, words_agree, cut_word, has_name, is_other, first_match}
 use Rattle.definitions.proofs.AccountWords.{row-of, row-set, row-unset, name-length, name-byte}
 use Rattle.definitions.proofs.Words.{pack-lane, lane-small, lanes-same}
 use Rattle.rules.proofs.Lanes.{and-lane, all-lane, all_past}
@@ -60,12 +60,13 @@ all-shift w c n (suc k) h =
     let f : w * suc k ≡ w + w * k = omega (arith, mul-suc w k) in
     rw (e, f, ← shr-shr (all_lanes w (n + k) c * 2 ^ w + c) w (w * k), high (all_lanes w (n + k) c) w h) (all-shift w c n k h)
 
-pub bytes_shifted : (n : ℕ) → n ≤ 8 → 0xFFFFFFFFFFFFFFFF / 2 ^ (64 - 8 * n) ≡ all_lanes byte_bits n 0xFF
+pub bytes_shifted : (n : ℕ) → 0xFFFFFFFFFFFFFFFF / 2 ^ (8 * (8 - n)) ≡ first_bytes n
 unfolding all_lanes
-bytes_shifted n h =
-    let f : 64 - 8 * n ≡ 8 * (8 - n) = omega arith in
-    let g : n + (8 - n) ≡ 8 = omega arith in
-    rw f (rw g at (all-shift byte_bits 0xFF n (8 - n) (lit< tt)))
+bytes_shifted n =
+    let m = min n 8 in
+    let f : 8 * (8 - n) ≡ 8 * (8 - m) = omega arith in
+    let g : m + (8 - m) ≡ 8 = omega arith in
+    rw f (rw g at (all-shift byte_bits 0xFF m (8 - m) (lit< tt)))
 
 -- a byte of a cut word: that of the word as far as the name goes, 0 behind it
 module _ (m x p : ℕ) where

@@ -24,7 +24,7 @@ fn first_bytes(count: usize) -> u64
     requires { 0 < count }
     ensures { result ≡ first_bytes count }
 {
-    u64::MAX >> (64 - 8 * count.min(8))
+    u64::MAX >> (8 * 8usize.saturating_sub(count))
 }
 
 // A name of a length that names have.

@@ -10,7 +10,7 @@ use crate::words::{AccountWords, Row, set_row};
 use definitions::NAME_LIMIT;
 
 // The bytes that a name has room in, 0 behind it.
-// Form: an array and no String, since the C interface lends it.
+// Form: an array with a length answered beside it, and no slice, since the C interface lends just this room, and all of it is written.
 pub type NameBytes = [u8; NAME_LIMIT];
 
 impl Row<'_> {
@@ -36,6 +36,7 @@ impl Row<'_> {
 }
 
 // Puts the name of an account, 0 behind it, and answers its length; an account that was never set has none.
+// Form: no Option, since the name of an account that was never set is the empty one (R2.4), whose length is 0.
 pub fn read_name(words: &AccountWords, number: usize, name: &mut NameBytes) -> usize
     ensures length { result ≡ length (row_of (table_of words.now) number).name }
     ensures name { name.new ≡ padded_name (row_of (table_of words.now) number).name }

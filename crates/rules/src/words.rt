@@ -12,7 +12,7 @@ use definitions::{
 use record::set_length;
 
 // The words of the header and of all rows.
-// Form: an array of words and no map, since the caller lends fixed memory.
+// Form: an array and no Vec of rows, since the caller lends the memory, and the service has no heap.
 pub type AccountWords = [u64; ACCOUNTS_SIZE];
 
 // The row of an account's number.

@@ -11,4 +11,4 @@ returns-clause-exact c =
     let a = c.args in
     let s = a.bytes.now in
     c.unwrap_or.ensures ∙ c.find_packed.ensures.exact ∙ ap (λ (m : Name). find_name (table_of a.words.now) (bytes_of m)) c.pack_name.ensures
-    ∙ find-packed a.words.now s (λ k. c.shared_slice_known-1.given k)
+    ∙ find-packed a.words.now s c.type_inv.bytes

@@ -14,7 +14,7 @@ pub returns : goal.returns
 returns c =
     let a = c.args in
     let s = a.bytes.now in
-    let b = bytes_take a.span.len (drop a.span.at s) (bytes_drop s a.span.at (λ k. c.shared_slice_known-1.given k)) in
+    let b = bytes_take a.span.len (drop a.span.at s) (bytes_drop s a.span.at c.type_inv.bytes) in
     let e : c.unwrap_or-number.result ≡ find_name (table_of a.words.now) (part_of s a.span) =
     c.unwrap_or-number.ensures ∙ c.find_packed.ensures.exact ∙ ap (λ (m : Name). find_name (table_of a.words.now) (bytes_of m)) c.name_in.ensures
     ∙ find-packed a.words.now (part_of s a.span) b
