@@ -64,16 +64,16 @@ impl Question<'_> {
         check_tgt(self.moment.clock, &tgt)?;
         check_evidence(self.moment.clock, &evidence, tgt.ticket.client)?;
         let service2 = self.service();
-        let window = self.hop_window_of(service2.account, &tgt, &evidence);
-        check_service(service2.account)?;
         let hop = Hop {
-            request: self.request,
+            question: self,
             tgt: &tgt,
             evidence: &evidence,
             service2,
         };
+        let window = hop.window();
+        check_service(service2.account)?;
         check_hop(hop.is_permitted(), &evidence.ticket)?;
         check_last(self.moment, window)?;
-        Ok(self.s4u2proxy_ticket(&tgt.ticket, &evidence.ticket, service2.number, window))
+        Ok(hop.ticket(window))
     }
 }

@@ -7,12 +7,13 @@ ghost use Rattle.definitions.specs.Decisions.{hop_permitted};
 
 use crate::accounts::{Flag, has_flag, in_set};
 use crate::options::Bit;
-use definitions::{Named, Presented, Request};
+use crate::question::Question;
+use definitions::{Named, Presented};
 
-// A hop: the request that asks for it, its TGT, its evidence, and the service that it goes to.
+// A hop: the question that asks for it, its TGT, its evidence, and the service that it goes to.
 #[derive(Clone, Copy)]
 pub(crate) struct Hop<'a> {
-    pub(crate) request: &'a Request,
+    pub(crate) question: &'a Question<'a>,
     pub(crate) tgt: &'a Presented,
     pub(crate) evidence: &'a Presented,
     pub(crate) service2: Named,
@@ -31,9 +32,9 @@ impl Hop<'_> {
     // Whether the resource route holds.
     #[tactic(auto, unfolding(definitions::specs::Routes::resource_route))]
     fn resource_route(&self) -> bool
-        ensures { result ≡ resource_route self.now.service2.account (is_resource_based self.now.request.now.pac_options) self.now.tgt.now.ticket.client self.now.evidence.now.ticket }
+        ensures { result ≡ resource_route self.now.service2.account (is_resource_based self.now.question.now.request.now.pac_options) self.now.tgt.now.ticket.client self.now.evidence.now.ticket }
     {
-        Bit::ResourceBased.is_in(self.request.pac_options)
+        Bit::ResourceBased.is_in(self.question.request.pac_options)
             && in_set(
                 self.service2.account.receive,
                 self.tgt.ticket.client as usize,
@@ -44,10 +45,10 @@ impl Hop<'_> {
     // Whether the evidence's client is not barred, CNAME-IN-ADDL-TKT stands and a route holds.
     #[tactic(auto, unfolding(definitions::specs::Routes::is_permitted, definitions::specs::Routes::has_route))]
     pub(crate) fn is_permitted(&self) -> bool
-        ensures { result ≡ hop_permitted (has_cname_in_addl_tkt self.now.request.now.options) (is_resource_based self.now.request.now.pac_options) self.now.tgt.now self.now.evidence.now self.now.service2 }
+        ensures { result ≡ hop_permitted (has_cname_in_addl_tkt self.now.question.now.request.now.options) (is_resource_based self.now.question.now.request.now.pac_options) self.now.tgt.now self.now.evidence.now self.now.service2 }
     {
         !has_flag(self.evidence.client, Flag::Barred)
-            && Bit::CnameInAddlTkt.is_in(self.request.options)
+            && Bit::CnameInAddlTkt.is_in(self.question.request.options)
             && (self.classic_route() || self.resource_route())
     }
 }

@@ -7,6 +7,7 @@ ghost use Rattle.definitions.specs.NewTickets.{direct_mark, s4u2self_forwardable
 use crate::accounts::{Flag, has_flag};
 use crate::options::{Bit, flags_of};
 use crate::question::Question;
+use crate::routes::Hop;
 use definitions::{Named, Origin, Presented, Principal, Ticket, Window};
 use record::blank_ticket;
 
@@ -81,26 +82,24 @@ impl Question<'_> {
             ..blank_ticket()
         }
     }
+}
 
-    // The ticket of kind 4, to the Service 2 of a number.
+impl Hop<'_> {
+    // The ticket of kind 4, to Service 2.
     #[tactic(auto, unfolding(definitions::specs::NewTickets::s4u2proxy_ticket))]
-    pub(crate) fn s4u2proxy_ticket(
-        &self,
-        tgt: &Ticket,
-        evidence: &Ticket,
-        number: Principal,
-        window: Window,
-    ) -> Ticket
-        requires { evidence.now.hops < trail_limit }
-        ensures { result ≡ s4u2proxy_ticket self.now.moment.next tgt.now evidence.now number window }
+    pub(crate) fn ticket(&self, window: Window) -> Ticket
+        requires { self.now.evidence.now.ticket.hops < trail_limit }
+        ensures { result ≡ s4u2proxy_ticket self.now.question.now.moment.next self.now.tgt.now.ticket self.now.evidence.now.ticket self.now.service2.number window }
     {
+        let tgt = &self.tgt.ticket;
+        let evidence = &self.evidence.ticket;
         let mut trail = evidence.trail;
         trail[evidence.hops as usize] = tgt.client;
         Ticket {
-            number: self.moment.next,
+            number: self.question.moment.next,
             flags: flags_of(Bit::Forwardable.is_in(evidence.flags), false),
             client: evidence.client,
-            service: number,
+            service: self.service2.number,
             window,
             origin: Origin::Delegated(tgt.number, evidence.number),
             trail,

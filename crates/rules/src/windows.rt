@@ -4,6 +4,7 @@ ghost use Rattle.definitions.specs.Windows.{initial_window};
 ghost use Rattle.definitions.specs.Decisions.{window_of, hop_window_of};
 
 use crate::question::Question;
+use crate::routes::Hop;
 use definitions::{Account, Presented, Window};
 
 impl Question<'_> {
@@ -29,18 +30,15 @@ impl Question<'_> {
     {
         self.initial_window(service).until(tgt.ticket.window.end)
     }
+}
 
+impl Hop<'_> {
     // The window of kind 4: it ends with the evidence too.
     #[tactic(auto, using(crate::proofs::Until::until_grant))]
-    pub(crate) fn hop_window_of(
-        &self,
-        service: Account,
-        tgt: &Presented,
-        evidence: &Presented,
-    ) -> Window
-        ensures { result ≡ hop_window_of self.now.moment service self.now.request.now.till tgt.now evidence.now }
+    pub(crate) fn window(&self) -> Window
+        ensures { result ≡ hop_window_of self.now.question.now.moment self.now.service2.account self.now.question.now.request.now.till self.now.tgt.now self.now.evidence.now }
     {
-        self.window_of(service, tgt)
-            .until(evidence.ticket.window.end)
+        let tickets = self.question.window_of(self.service2.account, self.tgt);
+        tickets.until(self.evidence.ticket.window.end)
     }
 }
