@@ -19,8 +19,8 @@ impl Question<'_> {
         ensures { result ≡ decide_kind Initial (table_of self.now.accounts.now) self.now.bytes.now self.now.request.now false false self.now.moment }
     {
         let user = self.user();
-        let window = self.initial_window(user.account);
         check_user(user.account)?;
+        let window = self.initial_window(user.account);
         check_last(self.moment, window)?;
         Ok(self.initial_ticket(user, window))
     }
@@ -33,8 +33,8 @@ impl Question<'_> {
         let tgt = self.tgt(tgt_held);
         check_tgt(self.moment.clock, &tgt)?;
         let service = self.service();
-        let window = self.window_of(service.account, &tgt);
         check_service(service.account)?;
+        let window = self.window_of(service.account, &tgt);
         check_last(self.moment, window)?;
         Ok(self.direct_ticket(&tgt, service.number, window))
     }
@@ -47,9 +47,9 @@ impl Question<'_> {
         let tgt = self.tgt(tgt_held);
         check_tgt(self.moment.clock, &tgt)?;
         let user = self.user();
-        let window = self.window_of(tgt.client, &tgt);
         check_self(tgt.client)?;
         check_user(user.account)?;
+        let window = self.window_of(tgt.client, &tgt);
         check_last(self.moment, window)?;
         Ok(self.s4u2self_ticket(&tgt, user, window))
     }
@@ -70,9 +70,9 @@ impl Question<'_> {
             evidence: &evidence,
             service2,
         };
-        let window = hop.window();
         check_service(service2.account)?;
         check_hop(hop.is_permitted(), &evidence.ticket)?;
+        let window = hop.window();
         check_last(self.moment, window)?;
         Ok(hop.ticket(window))
     }
