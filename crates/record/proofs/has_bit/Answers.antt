@@ -9,6 +9,3 @@ pub returns-then-k-lt64 : goal.returns-then-k-lt64
 unfolding has_bit
 returns-then-k-lt64 c =
     rw (le-leb c.args.k 63 (omega arith), ← and_mask (c.args.word / 2 ^ c.args.k) 1)
-
-pub returns-else-k-lt64 : goal.returns-else-k-lt64
-returns-else-k-lt64 c = rw (lt-leb c.args.k 63 (omega arith))

@@ -5,6 +5,3 @@ use Rattle.record.proofs.request.request_path.Goals as goal
 
 pub take-kind-requires-clause-start : goal.take-kind-requires-clause-start
 take-kind-requires-clause-start c = sym (offset-first request_layout c.args.bytes.now c.map_of-map.result)
-
-pub returns : goal.returns
-returns c = c.path_of.ensures ∙ rw (c.take-kind.ensures.single (omega arith), c.map_of-map.ensures)

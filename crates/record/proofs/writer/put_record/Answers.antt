@@ -5,11 +5,6 @@ use Rattle.definitions.specs.TicketRecords.{ticket_layout, values_of, record_as}
 use Rattle.record.proofs.Cursor.{size-most, wrote_then, wrote-mark}
 use Rattle.record.proofs.writer.put_record.Goals as goal
 
-pub put-requires-10-clause-room : goal.put-requires-10-clause-room
-put-requires-10-clause-room c =
-    let h : c.args.t.hops ≤ length c.args.t.trail = search rules in
-    rw length-take-le (omega (arith, size-most ticket_layout c.args.map 8 c.args.t.hops))
-
 pub returns-clause-put : goal.returns-clause-put
 unfolding record_as bytes_to
 returns-clause-put c =
@@ -27,9 +22,3 @@ returns-clause-put c =
     c.put-8.ensures.put)
     c.put-9.ensures.put)
     c.put-10.ensures.put)))
-
-pub returns-clause-bounded : goal.returns-clause-bounded
-returns-clause-bounded c =
-    let h : c.args.t.hops ≤ length c.args.t.trail = search rules in
-    let e = rw length-take-le at c.put-10.ensures.most in
-    omega arith

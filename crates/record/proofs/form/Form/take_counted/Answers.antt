@@ -22,13 +22,3 @@ pub overflow_mul-result : goal.overflow_mul-result
 overflow_mul-result c =
     let s = small_at c.args.self.layout.now c.args.self.small c.args.bit in
     omega (arith, units-few _ c.take-count.result s.1)
-
-pub returns : goal.returns
-returns c =
-    let t = c.take-count.ensures in
-    record {
-      at = λ w. rw (sym c.if-not-present.ensures, c.requires.start);
-      len = λ w. rw (t.value w);
-      next = t.next;
-      bounded = t.bounded;
-    }
