@@ -22,21 +22,10 @@ returns-in_default-clause-performed c =
     (unread (table_of a.accounts.now) (tickets_of a.ledger.now) (next_number a.ledger.now) a.bytes.now a.clock (length a.output.now) KRB_ERR_GENERIC
     (sym (read-refuse a.bytes.now (sym c.in_default.is ∙ c.request_path.ensures))))
 
-pub decide_request-requires : goal.decide_request-requires
-decide_request-requires c = sym c.in-Some.is ∙ c.request_path.ensures
-
-pub returns-in_err-ticket-clause-performed : goal.returns-in_err-ticket-clause-performed
-returns-in_err-ticket-clause-performed c =
-    let a = c.args in
-    let s : Service = record { accounts = a.accounts.now; ledger = a.ledger.now } in
-    let p = err_from_is_err_and c.from_residual.result c.from_residual.ensures.1 in
-    let e = sym (rw c.of-held.ensures at c.decide_request.ensures) ∙ c.in_err-ticket.was in
-    rw (p.1, p.2) (performed-refused s a.bytes.now a.clock a.output.now c.in_err-ticket.field-0.0 (sym e))
-
 pub store_ticket-requires : goal.store_ticket-requires
 store_ticket-requires c =
     let a = c.args in
-    let b : Bytes a.bytes.now = λ k. c.shared_slice_known-1.given k in
+    let b : Bytes a.bytes.now = λ k. c.type_inv.bytes k in
     let e = sym (rw c.of-held.ensures at c.decide_request.ensures) ∙ c.in_ok-ticket.was in
     let g = granting (record { accounts = a.accounts.now; ledger = a.ledger.now }) a.bytes.now a.clock (length a.output.now) c.in_ok-ticket.ticket b c.ranges.clock e in
     (omega (arith, g.place), g.number)
@@ -44,7 +33,7 @@ store_ticket-requires c =
 pub unwrap-length-requires : goal.unwrap-length-requires
 unwrap-length-requires c =
     let a = c.args in
-    let b : Bytes a.bytes.now = λ k. c.shared_slice_known-1.given k in
+    let b : Bytes a.bytes.now = λ k. c.type_inv.bytes k in
     let e = sym (rw c.of-held.ensures at c.decide_request.ensures) ∙ c.in_ok-ticket.was in
     let q = granted-length (record { accounts = a.accounts.now; ledger = a.ledger.now }) a.bytes.now a.clock (length a.output.now) c.in_ok-ticket.ticket (sym e) b c.ranges.clock in
     rw (c.write_ticket.ensures.answer ∙ q.0) refl
@@ -52,7 +41,7 @@ unwrap-length-requires c =
 pub returns-clause-performed : goal.returns-clause-performed
 returns-clause-performed c =
     let a = c.args in
-    let b : Bytes a.bytes.now = λ k. c.shared_slice_known-1.given k in
+    let b : Bytes a.bytes.now = λ k. c.type_inv.bytes k in
     let e = sym (rw c.of-held.ensures at c.decide_request.ensures) ∙ c.in_ok-ticket.was in
     performed-granted (record { accounts = a.accounts.now; ledger = a.ledger.now }) a.bytes.now a.clock a.output.now b c.ranges.clock c.in_ok-ticket.ticket (sym e)
     c.store_ticket.new.words c.write_ticket.new.out c.store_ticket.ensures c.write_ticket.ensures.output
@@ -60,7 +49,7 @@ returns-clause-performed c =
 pub returns-clause-measured : goal.returns-clause-measured
 returns-clause-measured c =
     let a = c.args in
-    let b : Bytes a.bytes.now = λ k. c.shared_slice_known-1.given k in
+    let b : Bytes a.bytes.now = λ k. c.type_inv.bytes k in
     let e = sym (rw c.of-held.ensures at c.decide_request.ensures) ∙ c.in_ok-ticket.was in
     let q = granted-length (record { accounts = a.accounts.now; ledger = a.ledger.now }) a.bytes.now a.clock (length a.output.now) c.in_ok-ticket.ticket (sym e) b c.ranges.clock in
     ok_same (sym c.unwrap-length.ensures ∙ c.write_ticket.ensures.answer ∙ q.0)
@@ -68,7 +57,7 @@ returns-clause-measured c =
 pub returns-clause-bounded : goal.returns-clause-bounded
 returns-clause-bounded c =
     let a = c.args in
-    let b : Bytes a.bytes.now = λ k. c.shared_slice_known-1.given k in
+    let b : Bytes a.bytes.now = λ k. c.type_inv.bytes k in
     let e = sym (rw c.of-held.ensures at c.decide_request.ensures) ∙ c.in_ok-ticket.was in
     let q = granted-length (record { accounts = a.accounts.now; ledger = a.ledger.now }) a.bytes.now a.clock (length a.output.now) c.in_ok-ticket.ticket (sym e) b c.ranges.clock in
     let n = ok_same (sym c.unwrap-length.ensures ∙ c.write_ticket.ensures.answer ∙ q.0) in
