@@ -29,7 +29,7 @@ use definitions::{
 use ledger::LedgerWords;
 use record::Draft;
 use rules::{AccountWords, NameBytes};
-use saving::{is_loadable, load_words, put_body, put_sums};
+use saving::{is_loadable, load_words, put_service};
 
 // What a call answers: the error number, 0 where there is none, and a value, 0 beside an error.
 // Form: two numbers and no Result, since the C interface has them (include/tickets.h).
@@ -384,7 +384,7 @@ pub extern "C" fn tickets_layout() -> u32
 }
 
 // Saves the service to the output's start: how many bytes it takes, or 52.
-#[tactic(auto, unfolding(definitions::specs::Saving::save_output))]
+#[tactic(auto, using(crate::proofs::SavedBytes::room_enough), unfolding(definitions::specs::Saving::save_output))]
 #[unsafe(no_mangle)]
 pub extern "C" fn tickets_save(
     accounts: &AccountWords,
@@ -394,15 +394,15 @@ pub extern "C" fn tickets_save(
     ensures answer { result ≡ value_answer (save_answer (length output.old)) }
     ensures output { output.new ≡ save_output (record { accounts = accounts.now; ledger = ledger.now }) output.old }
 {
-    if output.len() < SAVED_SIZE {
+    let Some(saved) = output.first_chunk_mut::<SAVED_SIZE>() else {
         return TicketsAnswer::from(Err(Error::KRB_ERR_RESPONSE_TOO_BIG));
-    }
-    put_body(output, accounts, ledger);
-    put_sums(output);
+    };
+    put_service(saved, accounts, ledger);
     TicketsAnswer::from(Ok(SAVED_SIZE as u32))
 }
 
 // Makes the service the one that was saved as these bytes: 0, or 60.
+#[tactic(auto, unfolding(definitions::specs::Saving::loadable))]
 #[unsafe(no_mangle)]
 pub extern "C" fn tickets_load(
     accounts: &mut AccountWords,
@@ -412,9 +412,9 @@ pub extern "C" fn tickets_load(
     ensures answer { result ≡ answer_number (load_answer saved.now) }
     ensures service { record { accounts = accounts.new; ledger = ledger.new } ≡ load_service saved.now (record { accounts = accounts.old; ledger = ledger.old }) }
 {
-    if !is_loadable(saved) {
+    let Some(saved) = saved.as_array().filter(|saved| is_loadable(saved)) else {
         return u32::from(Error::KRB_ERR_GENERIC);
-    }
+    };
     load_words(accounts, saved, ACCOUNTS_PLACE);
     load_words(ledger, saved, LEDGER_PLACE);
     0

@@ -1,43 +1,43 @@
 // A saved service (R7.8 to R7.10): words as bytes and back, the check sum, and which bytes are loaded.
-ghost use Rattle.std.specs.Prelude.{◌≡◌, [], ◌∷◌, ◌+◌, ◌*◌, ◌≤◌, ◌<◌, length};
-ghost use Rattle.std.proofs.lemmas.List.Edits.{sets};
-ghost use Rattle.definitions.specs.Limits.{accounts_size, ledger_size, word_size, saved_magic, layout_number, sum_place, saved_size};
-ghost use Rattle.definitions.specs.Fields.{number_at, big_endian};
-ghost use Rattle.definitions.specs.Saving.{word_bytes, byte_sum, place_sum, saved_body, words_at, loadable};
+ghost use Rattle.std.specs.Prelude.{◌≡◌, ◌++◌, ◌+◌, ◌*◌, ◌≤◌, length, take};
+ghost use Rattle.definitions.specs.Limits.{word_size, sum_place, saved_size};
+ghost use Rattle.definitions.specs.Fields.{number_at};
+ghost use Rattle.definitions.specs.Saving.{word_bytes, byte_sum, place_sum, saved_of, words_at, loadable};
 
 use definitions::{
     ACCOUNTS_PLACE, LAYOUT, LAYOUT_PLACE, LEDGER_PLACE, MAGIC, SAVED_SIZE, SUM_PLACE, WORD_SIZE,
 };
+use ledger::LedgerWords;
+use rules::AccountWords;
 
-// Puts a word, big-endian.
-fn put_word(out: &mut [u8], at: usize, word: u64)
-    requires { at + word_size ≤ length out.old }
-    ensures { out.new ≡ sets out.old at (big_endian word_size word) }
-{
-    out[at..at + WORD_SIZE].copy_from_slice(&word.to_be_bytes());
-}
+// As many bytes as a service takes.
+pub(crate) type Saved = [u8; SAVED_SIZE];
 
-// Puts words one behind the other.
-fn put_words(out: &mut [u8], at: usize, words: &[u64])
-    requires { at + word_size * length words.now ≤ length out.old }
-    ensures { out.new ≡ sets out.old at (word_bytes words.now) }
+// Puts words behind what stands before a position, each big-endian.
+#[tactic(auto, using(crate::proofs::SavedBytes::put_next), unfolding(definitions::specs::Saving::word_bytes))]
+fn put_words(saved: &mut Saved, at: usize, words: &[u64])
+    requires { at + word_size * length words.now ≤ saved_size }
+    ensures { take (at + word_size * length words.now) saved.new ≡ take at saved.old ++ word_bytes words.now }
 {
     for (i, word) in words.iter().enumerate() {
-        put_word(out, at + WORD_SIZE * i, *word);
+        let place = at + WORD_SIZE * i;
+        saved[place..place + WORD_SIZE].copy_from_slice(&word.to_be_bytes());
     }
 }
 
 // The word at a position.
-fn word_at(bytes: &[u8], at: usize) -> u64
-    requires { at + word_size ≤ length bytes.now }
-    ensures { result ≡ number_at bytes.now at word_size }
+#[tactic(auto, using(crate::proofs::SavedBytes::word_read))]
+fn word_at(saved: &Saved, at: usize) -> u64
+    requires { at + word_size ≤ saved_size }
+    ensures { result ≡ number_at saved.now at word_size }
 {
-    u64::from_be_bytes(*bytes[at..].first_chunk().unwrap())
+    u64::from_be_bytes(*saved[at..].first_chunk().unwrap())
 }
 
 // Loads all words from a position on.
-pub(crate) fn load_words(words: &mut [u64], saved: &[u8], at: usize)
-    requires { at + word_size * length words.old ≤ length saved.now }
+#[tactic(auto, using(crate::proofs::SavedBytes::load_next), unfolding(definitions::specs::Saving::words_at))]
+pub(crate) fn load_words(words: &mut [u64], saved: &Saved, at: usize)
+    requires { at + word_size * length words.old ≤ saved_size }
     ensures { words.new ≡ words_at saved.now at (length words.old) }
 {
     for (i, word) in words.iter_mut().enumerate() {
@@ -54,13 +54,14 @@ struct Sums {
 
 impl Sums {
     // The check sum of the bytes before its place.
-    fn of(bytes: &[u8]) -> Self
-        requires { sum_place ≤ length bytes.now }
-        ensures { result ≡ record { first = byte_sum bytes.now sum_place; second = place_sum bytes.now sum_place } }
+    #[tactic(auto, using(crate::proofs::SavedBytes::sum_none, crate::proofs::SavedBytes::sum_next, crate::proofs::SavedBytes::place_times))]
+    fn of(saved: &Saved) -> Self
+        ensures first { result.first ≡ byte_sum saved.now sum_place }
+        ensures second { result.second ≡ place_sum saved.now sum_place }
     {
         let mut first = 0;
         let mut second = 0;
-        for (i, byte) in bytes[..SUM_PLACE].iter().enumerate() {
+        for (i, byte) in saved[..SUM_PLACE].iter().enumerate() {
             let byte = u64::from(*byte);
             first += byte;
             second += (i as u64 + 1) * byte;
@@ -69,9 +70,9 @@ impl Sums {
     }
 
     // The check sum that stands at its place.
-    fn read(saved: &[u8]) -> Self
-        requires { saved_size ≤ length saved.now }
-        ensures { result ≡ record { first = number_at saved.now sum_place word_size; second = number_at saved.now (sum_place + word_size) word_size } }
+    fn read(saved: &Saved) -> Self
+        ensures first { result.first ≡ number_at saved.now sum_place word_size }
+        ensures second { result.second ≡ number_at saved.now (sum_place + word_size) word_size }
     {
         Sums {
             first: word_at(saved, SUM_PLACE),
@@ -80,42 +81,23 @@ impl Sums {
     }
 }
 
-// Puts the magic and the layout's number.
-fn put_head(out: &mut [u8])
-    requires { saved_size ≤ length out.old }
-    ensures { out.new ≡ sets out.old 0 (word_bytes (saved_magic ∷ layout_number ∷ [])) }
+// Puts a service: all that the check sum is of, and behind it the check sum.
+pub(crate) fn put_service(saved: &mut Saved, accounts: &AccountWords, ledger: &LedgerWords)
+    ensures { saved.new ≡ saved_of (record { accounts = accounts.now; ledger = ledger.now }) }
 {
-    put_word(out, 0, MAGIC);
-    put_word(out, LAYOUT_PLACE, LAYOUT);
-}
-
-// Puts all that the check sum is of.
-pub(crate) fn put_body(out: &mut [u8], accounts: &[u64], ledger: &[u64])
-    requires { (saved_size ≤ length out.old) × (length accounts.now ≡ accounts_size) × (length ledger.now ≡ ledger_size) }
-    ensures { out.new ≡ sets out.old 0 (saved_body (record { accounts = accounts.now; ledger = ledger.now })) }
-{
-    put_head(out);
-    put_words(out, ACCOUNTS_PLACE, accounts);
-    put_words(out, LEDGER_PLACE, ledger);
-}
-
-// Puts the check sum of what stands before it.
-pub(crate) fn put_sums(out: &mut [u8])
-    requires { saved_size ≤ length out.old }
-    ensures { out.new ≡ sets out.old sum_place (word_bytes (byte_sum out.old sum_place ∷ place_sum out.old sum_place ∷ [])) }
-{
-    let sums = Sums::of(out);
-    put_word(out, SUM_PLACE, sums.first);
-    put_word(out, SUM_PLACE + WORD_SIZE, sums.second);
+    put_words(saved, 0, &[MAGIC, LAYOUT]);
+    put_words(saved, ACCOUNTS_PLACE, accounts);
+    put_words(saved, LEDGER_PLACE, ledger);
+    let sums = Sums::of(saved);
+    put_words(saved, SUM_PLACE, &[sums.first, sums.second]);
 }
 
 // Whether the bytes are those of a service.
 #[tactic(auto, unfolding(definitions::specs::Saving::loadable))]
-pub(crate) fn is_loadable(saved: &[u8]) -> bool
+pub(crate) fn is_loadable(saved: &Saved) -> bool
     ensures { result ≡ loadable saved.now }
 {
-    saved.len() == SAVED_SIZE
-        && word_at(saved, 0) == MAGIC
+    word_at(saved, 0) == MAGIC
         && word_at(saved, LAYOUT_PLACE) == LAYOUT
         && Sums::read(saved) == Sums::of(saved)
 }
