@@ -2,10 +2,9 @@
 -- Assumes nothing.
 use mathlib.Core.Path.{◌≡◌, refl, sym, ap, ap₂, ◌∙◌}
 use mathlib.Core.Bool.{Bool, true, false}
-use mathlib.Core.Logic.{⊎_elim}
 use mathlib.Core.List.{List, [], ◌∷◌, ◌++◌, append-nil}
 use Prim.Native.Nat.{ℕ, zero, suc, ◌+◌, ◌-◌, ◌*◌, ◌/◌, ◌%◌, ◌^◌, ◌≤◌, ◌<◌}
-use native.Mathlib.Nat.{zero-add, add-zero, mod-eq_of_lt, lt_of_le_of_lt, eq-or-lt_of_le, div-mul-le_self}
+use native.Mathlib.Nat.{zero-add, add-zero, mod-eq_of_lt, lt_of_le_of_lt, div-mul-le_self}
 use native.Mathlib.Numerals.{add-one}
 use native.Mathlib.Omega.{arith}
 use Rattle.std.specs.Prelude.{Option, Some, None, MatchOption}
@@ -69,15 +68,6 @@ over-shifted x numbers n h =
     let m = 2 ^ (16 * n) in
     let e : x / m * m % 2 ^ 64 ≡ x / m * m = mod-eq_of_lt (lt_of_le_of_lt (div-mul-le_self x m) h) in
     rw e
-
--- it fits a word
-pub over-fits : (x numbers n : ℕ) → x < 2 ^ 64 → numbers < 2 ^ 64 → n < 4 → lanes_over x numbers n < 2 ^ 64
-unfolding lanes_over
-over-fits x numbers zero h l r = omega arith
-over-fits x numbers (suc zero) h l r = omega arith
-over-fits x numbers (suc (suc zero)) h l r = omega arith
-over-fits x numbers (suc (suc (suc zero))) h l r = omega arith
-over-fits x numbers (suc (suc (suc (suc n)))) h l r = absurd (omega arith)
 
 -- ---- A word set, whether or not the words have it
 -- set again, by what was set
@@ -181,12 +171,6 @@ put_last : (w : List ℕ) (cs : List Place) (c : Place) → put_places w 0 (cs +
 unfolding put_places
 put_last w cs c = put-append w 0 cs (c ∷ []) ∙ rw zero-add
 
--- a word without its first lanes, and without one more
-pub lanes_on : (x i from : ℕ) → from ≤ i → x / 2 ^ (number_bits * (i - from)) / two16 ≡ x / 2 ^ (number_bits * (i + 1 - from))
-lanes_on x i from h =
-    let e : 16 * (i + 1 - from) ≡ 16 * (i - from) + 16 = omega arith in
-    rw e (shr-shr x (16 * (i - from)) 16)
-
 -- ---- Places closed up
 -- one place more, whose ticket stays or goes
 staying-more : (w : List ℕ) (clock i : ℕ)
@@ -209,10 +193,6 @@ staying-all w clock (suc n) h =
       places-more w 0 n,
       zero-add,
     )
-
--- places that all go, and one before them
-pub all-go-more : (w : List ℕ) (clock i n : ℕ) → AllGo w clock i n → stays clock (ticket_at w (i - 1)) ≡ false → AllGo w clock (i - 1) n
-all-go-more w clock i n h g k a b = ⊎_elim (λ e. rw e at g) (λ l. h k (omega arith) b) (eq-or-lt_of_le a)
 
 -- where all stay, the words are closed up as they are
 pub closed-start : (w : List ℕ) (clock n : ℕ) → n % numbers_in_word ≡ 0 → AllStay w clock n → (closing : Closing) → closing.kept ≡ n → closing.numbers ≡ 0 → Closed w clock n w closing
@@ -253,13 +233,13 @@ module _ (w : List ℕ) (clock i : ℕ) (v : List ℕ) (closing : Closing) (fits
       ∙ ap (λ (u : List ℕ). place_at u k) c.words ∙ behind-kept w clock i k h l
 
   -- the numbers of the places to come, of those in one word
-  pub closed-number : (k : ℕ) → i % numbers_in_word ≡ 0 → i ≤ k → k < i + numbers_in_word → k < ticket_limit
-      → get_or v (numbers_start + i / numbers_in_word) 0 / 2 ^ (number_bits * (k - i)) % two16 ≡ (place_at w k).number
-  unfolding lane_at lane_of
-  closed-number k a h b l =
-      let e : k / 4 ≡ i / 4 = omega arith in
-      let f : k % 4 ≡ k - i = omega arith in
-      (rw (← e, ← f)) ∙ ap (λ (p : Place). p.number) (closed-read k h l)
+  pub closed-number : (k lane : ℕ) → lane < numbers_in_word → i ≤ numbers_in_word * k + lane → numbers_in_word * k + lane < ticket_limit
+      → lane_of number_bits (get_or v (numbers_start + k) 0) lane ≡ (place_at w (numbers_in_word * k + lane)).number
+  unfolding lane_at
+  closed-number k lane b h l =
+      let e : (4 * k + lane) / 4 ≡ k = omega arith in
+      let f : (4 * k + lane) % 4 ≡ lane = omega arith in
+      ap₂ (λ (j m : ℕ). lane_of number_bits (get_or v (numbers_start + j) 0) m) (sym e) (sym f) ∙ ap (λ (p : Place). p.number) (closed-read (4 * k + lane) h l)
 
   -- a place whose ticket goes
   pub closed-gone : i < ticket_limit → stays clock (ticket_at v i) ≡ false → Closed w clock (i + 1) v closing
@@ -339,13 +319,21 @@ module _ (w : List ℕ) (clock : ℕ) where
       in
       clear-put w (count_held w) (sym e) (stayed-all all)
 
--- the first place that a search over all of them finds
-pub first-gone : (w : List ℕ) (clock n : ℕ) (r : Option ℕ)
-    → MatchOption r ((k : ℕ) → 0 ≤ k → k < n → stays clock (ticket_at w k) ≡ true)
-    (λ i. (0 ≤ i) × (i < n) × (stays clock (ticket_at w i) ≡ false) × ((k : ℕ) → 0 ≤ k → k < i → stays clock (ticket_at w k) ≡ true))
+-- places that all stay, and those behind them
+stay-on : (w : List ℕ) (clock from n : ℕ) → AllStay w clock from → ((k : ℕ) → from ≤ k → k < n → stays clock (ticket_at w k) ≡ true) → AllStay w clock n
+stay-on w clock from n all h k l = by (ltb k from) refl
+  where
+    by : (t : Bool) → ltb k from ≡ t → stays clock (ticket_at w k) ≡ true
+    by true e = all k (ltb-true _ _ e)
+    by false e = h k (ltb-false _ _ e) l
+
+-- the first place that a search behind places that all stay finds
+pub first-gone : (w : List ℕ) (clock from n : ℕ) (r : Option ℕ) → AllStay w clock from
+    → MatchOption r ((k : ℕ) → from ≤ k → k < n → stays clock (ticket_at w k) ≡ true)
+    (λ i. (from ≤ i) × (i < n) × (stays clock (ticket_at w i) ≡ false) × ((k : ℕ) → from ≤ k → k < i → stays clock (ticket_at w k) ≡ true))
     → IsFirstGone w clock n r
-first-gone w clock n None h = λ k l. h k (omega arith) l
-first-gone w clock n (Some i) h = (h.1, λ k l. h.3 k (omega arith) l)
+first-gone w clock from n None all h = stay-on w clock from n all h
+first-gone w clock from n (Some i) all h = (h.1, stay-on w clock from i all h.3)
 
 -- where there is none, all stay
 pub none-gone : (w : List ℕ) (clock n : ℕ) (r : Option ℕ) → r ≡ None → IsFirstGone w clock n r → AllStay w clock n

@@ -1,83 +1,106 @@
 // Clearing out ended tickets (R7.6). Where none goes, no place is written. Else the places are closed up in one pass, from the four on whose
-// numbers stand in one word with that of the first that goes, up to the last that stays; the numbers kept last wait until their word is full.
-// The places behind those kept are set free, by fours too.
-ghost use Rattle.std.specs.Prelude.{◌≡◌, ◌+◌, ◌%◌, ◌<◌, ◌≤◌, length, MatchOption};
+// numbers stand in one word with that of the first that goes, up to the four with the last that stays and the places of a last word that is not
+// full; the numbers kept last wait until their word is full. The places behind those kept are set free, by fours too.
+ghost use Rattle.std.specs.Prelude.{◌≡◌, true, false, ◌+◌, ◌*◌, ◌/◌, ◌<◌, ◌≤◌};
 ghost use Rattle.definitions.specs.Limits.{ticket_limit, numbers_in_word};
-ghost use Rattle.definitions.specs.LedgerWords.{ticket_on, ticket_at, count_held, tickets_of};
-ghost use Rattle.definitions.specs.Clearing.{stays, staying, gone};
-ghost use Rattle.definitions.specs.ClearedWords.{held_places, put_places, closed_up, clear_tickets};
+ghost use Rattle.definitions.specs.LedgerWords.{count_held, tickets_of};
+ghost use Rattle.definitions.specs.Clearing.{gone};
+ghost use Rattle.definitions.specs.ClearedWords.{clear_tickets};
 ghost use Rattle.ledger.specs.ClosingUp.{AllStay, AllGo, IsFirstGone, Closed};
 
 use crate::closing::Closing;
-use crate::words::{LedgerWords, Place, count_held, put_count};
+use crate::held::HeldTickets;
+use crate::words::{LedgerWords, NumberWord, Place, put_count};
 use definitions::NUMBERS_IN_WORD;
 
-// Whether the ticket at a place stays.
-pub(crate) fn stays_at(words: &LedgerWords, i: usize, clock: u32) -> bool
-    requires { i < ticket_limit }
-    ensures { result ≡ stays clock (ticket_at words.now i) }
+// Whether the tickets stay at all places whose numbers stand in a word.
+fn all_stay(words: &LedgerWords, k: NumberWord, clock: u32) -> bool
+    ensures { result ≡ true → AllStay words.now clock (numbers_in_word * k.index) → AllStay words.now clock (numbers_in_word * (k.index + 1)) }
 {
-    !Place { index: i }.window(words).ended(clock)
+    let first = NUMBERS_IN_WORD * k.index;
+    (first..first + NUMBERS_IN_WORD).all(
+        |i|
+            requires { i < ticket_limit }
+        { Place { index: i }.stays(words, clock) },
+    )
 }
 
-// The first place of n whose ticket goes.
-// Form: a loop and no `find`, by which each place takes an instruction more.
-fn first_ended(words: &LedgerWords, n: usize, clock: u32) -> Option<usize>
-    requires { n ≤ ticket_limit }
-    ensures { IsFirstGone words.now clock n result }
+// How many of the full words of numbers come before the first at one of whose places a ticket goes.
+// Form: a loop and no `find` with `unwrap_or`, which is no plainer: what holds of the words passed is the loop's invariant, and needs no proof.
+fn words_staying(held: HeldTickets, clock: u32) -> usize
+    ensures bounded { result ≤ held.entry.count / numbers_in_word }
+    ensures passed { AllStay held.entry.words.now clock (numbers_in_word * result) }
 {
-    for i in 0..n {
-        if !stays_at(words, i, clock) {
-            return Some(i);
+    let full = held.count / NUMBERS_IN_WORD;
+    for k in 0..full {
+        if !all_stay(held.words, NumberWord { index: k }, clock) {
+            return k;
         }
     }
-    None
+    full
 }
 
-// Behind the last place of n whose ticket stays, of those from one on; that one where none does.
-fn end_of_staying(words: &LedgerWords, from: usize, n: usize, clock: u32) -> usize
-    requires { (from ≤ n) × (n ≤ ticket_limit) }
-    ensures bounded { (from ≤ result) × (result ≤ n) }
-    ensures passed { AllGo words.now clock result n }
+// The first place held whose ticket goes.
+fn first_ended(held: HeldTickets, clock: u32) -> Option<usize>
+    ensures { IsFirstGone held.entry.words.now clock held.entry.count result }
 {
-    for i in (from..n).rev() {
-        if stays_at(words, i, clock) {
-            return i + 1;
+    let words = held.words;
+    let from = NUMBERS_IN_WORD * words_staying(held, clock);
+    (from..held.count).find(
+        |i|
+            requires { i.now < ticket_limit }
+        { !Place { index: *i }.stays(words, clock) },
+    )
+}
+
+// Whether a ticket stays at one of the places whose numbers stand in a word.
+fn any_stays(words: &LedgerWords, k: NumberWord, clock: u32) -> bool
+    ensures { result ≡ false → AllGo words.now clock (numbers_in_word * k.index) (numbers_in_word * (k.index + 1)) }
+{
+    let first = NUMBERS_IN_WORD * k.index;
+    (first..first + NUMBERS_IN_WORD).any(
+        |i|
+            requires { i < ticket_limit }
+        { Place { index: i }.stays(words, clock) },
+    )
+}
+
+// How many of the full words of numbers there are up to the last at one of whose places a ticket stays.
+// Form: a loop and no `find` with `map_or`, as above.
+fn end_of_staying(held: HeldTickets, clock: u32) -> usize
+    ensures bounded { result ≤ held.entry.count / numbers_in_word }
+    ensures passed { AllGo held.entry.words.now clock (numbers_in_word * result) (numbers_in_word * (held.entry.count / numbers_in_word)) }
+{
+    for k in (0..held.count / NUMBERS_IN_WORD).rev() {
+        if any_stays(held.words, NumberWord { index: k }, clock) {
+            return k + 1;
         }
     }
-    from
+    0
 }
 
-// Closes up n places from one on, before which all stay: by whole words of numbers, and then those of the last word.
-fn close_up(words: &mut LedgerWords, from: usize, n: usize, clock: u32) -> Closing
-    requires { (from % numbers_in_word ≡ 0) × (from ≤ n) × (n ≤ ticket_limit) × AllStay words.old clock from }
-    ensures within { result.kept ≤ n }
-    ensures closed { Closed words.old clock n words.new result }
+// Closes up the places held, where all before one stay: by full words of numbers, and then those of the last word.
+fn close_up(words: &mut LedgerWords, first: usize, clock: u32) -> Closing
+    requires { (first < count_held words.old) × AllStay words.old clock first }
+    ensures within { result.kept ≤ count_held words.old }
+    ensures closed { Closed words.old clock (count_held words.old) words.new result }
 {
+    let held = HeldTickets::of(words);
+    let n = held.count;
+    let from = first / NUMBERS_IN_WORD;
+    let end = end_of_staying(held, clock);
     let mut closing = Closing::whole(from);
-    for k in from / NUMBERS_IN_WORD..n / NUMBERS_IN_WORD {
-        let i = NUMBERS_IN_WORD * k;
-        closing = closing.pass_word(words, i, i + NUMBERS_IN_WORD, clock);
+    for k in from..end {
+        closing = closing.pass_word(words, NumberWord { index: k }, NUMBERS_IN_WORD, clock);
     }
-    let whole = n - n % NUMBERS_IN_WORD;
-    if whole == n {
+    let rest = n % NUMBERS_IN_WORD;
+    if rest == 0 {
         return closing;
     }
-    closing.pass_word(words, whole, n, clock)
-}
-
-// Closes up the places held from one on, before which all stay, and sets those behind free; answers how many are kept.
-fn close_places(words: &mut LedgerWords, from: usize, clock: u32) -> usize
-    requires { (from % numbers_in_word ≡ 0) × (from ≤ count_held words.old) × AllStay words.old clock from }
-    ensures bounded { result ≤ count_held words.old }
-    ensures kept { result ≡ length (staying ticket_on clock (held_places words.old)) }
-    ensures put { words.new ≡ put_places words.old 0 (closed_up clock (held_places words.old)) }
-{
-    let n = count_held(words);
-    let end = end_of_staying(words, from, n, clock);
-    let closing = close_up(words, from, end, clock);
-    closing.free(words, n).settle(words);
-    closing.kept
+    let last = NumberWord {
+        index: n / NUMBERS_IN_WORD,
+    };
+    closing.pass_word(words, last, rest, clock)
 }
 
 // Clears out the tickets that have ended at a clock reading, and answers how many (R7.6).
@@ -86,12 +109,15 @@ pub(crate) fn clear_tickets(words: &mut LedgerWords, clock: u32) -> usize
     ensures counted { result ≡ gone clock (tickets_of words.old) }
     ensures bounded { result ≤ ticket_limit }
 {
-    let n = count_held(words);
-    let Some(first) = first_ended(words, n, clock) else {
+    let held = HeldTickets::of(words);
+    let n = held.count;
+    let Some(first) = first_ended(held, clock) else {
         put_count(words, n);
         return 0;
     };
-    let kept = close_places(words, first - first % NUMBERS_IN_WORD, clock);
+    let closing = close_up(words, first, clock);
+    closing.free(words, n).settle(words);
+    let kept = closing.kept;
     put_count(words, kept);
     n - kept
 }

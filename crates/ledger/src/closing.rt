@@ -2,8 +2,7 @@
 ghost use Rattle.std.specs.Prelude.{◌≤◌};
 ghost use Rattle.definitions.specs.Limits.{ticket_limit};
 
-use crate::clearing::stays_at;
-use crate::words::{LedgerWords, Place, Row, number_word, swap_numbers};
+use crate::words::{LedgerWords, NumberWord, Place, Row, number_in};
 use definitions::{NUMBER_BITS, NUMBERS_IN_WORD, PLACE_SIZE, TWO_16, TWO_48};
 
 // How far the places are closed up: how many are kept, and the last four numbers kept, the last of them on top. Those that do not fill a word wait.
@@ -25,13 +24,16 @@ impl Closing {
     ghost use Rattle.definitions.specs.ClearedWords.{free_place, put_places};
     ghost use Rattle.ledger.specs.ClosingUp.{lanes_over, settled, Closed};
 
-    // The first places kept as they are; no number waits.
-    pub(crate) fn whole(kept: usize) -> Closing
-        requires { (kept % numbers_in_word ≡ 0) × (kept ≤ ticket_limit) }
-        ensures all { result.kept ≡ kept }
+    // The places of the first words of numbers kept as they are; no number waits.
+    pub(crate) fn whole(k: usize) -> Closing
+        requires { k ≤ number_words }
+        ensures all { result.kept ≡ numbers_in_word * k }
         ensures none { result.numbers ≡ 0 }
     {
-        Closing { kept, numbers: 0 }
+        Closing {
+            kept: NUMBERS_IN_WORD * k,
+            numbers: 0,
+        }
     }
 
     // Takes in one number more; a word that it fills is put.
@@ -43,7 +45,7 @@ impl Closing {
         let kept = self.kept + 1;
         let numbers = self.numbers / TWO_16 + TWO_48 * number as u64;
         if kept % NUMBERS_IN_WORD == 0 {
-            swap_numbers(words, self.kept / NUMBERS_IN_WORD, numbers);
+            Place { index: self.kept }.word().swap(words, numbers);
         }
         Closing { kept, numbers }
     }
@@ -64,42 +66,44 @@ impl Closing {
         ensures within { result.kept ≤ place.index + 1 }
         ensures passed { (w : List ℕ) → number ≡ (place_at w place.index).number → Closed w clock place.index words.old self → Closed w clock (place.index + 1) words.new result }
     {
-        if stays_at(words, place.index, clock) {
+        if place.stays(words, clock) {
             self.push(words, number, &place.row(words))
         } else {
             self
         }
     }
 
-    // Goes past places whose numbers stand in one word.
+    // Goes past some places, the first of those whose numbers stand in a word.
     pub(crate) fn pass_word(
         self,
         words: &mut LedgerWords,
-        from: usize,
-        to: usize,
+        k: NumberWord,
+        n: usize,
         clock: u32,
     ) -> Closing
-        requires { (self.kept ≤ from) × (from % numbers_in_word ≡ 0) × (from < to) × (to ≤ from + numbers_in_word) × (to ≤ ticket_limit) }
-        ensures within { result.kept ≤ to }
-        ensures passed { (w : List ℕ) → Closed w clock from words.old self → Closed w clock to words.new result }
+        requires { (self.kept ≤ numbers_in_word * k.index) × (n ≤ numbers_in_word) }
+        ensures within { result.kept ≤ numbers_in_word * k.index + n }
+        ensures passed { (w : List ℕ) → Closed w clock (numbers_in_word * k.index) words.old self → Closed w clock (numbers_in_word * k.index + n) words.new result }
     {
         let mut closing = self;
-        let mut rest = number_word(words, from / NUMBERS_IN_WORD);
-        for i in from..to {
-            closing = closing.pass(words, Place { index: i }, (rest % TWO_16) as u16, clock);
-            rest = rest / TWO_16;
+        let numbers = k.read(words);
+        for lane in 0..n {
+            let place = Place {
+                index: NUMBERS_IN_WORD * k.index + lane,
+            };
+            closing = closing.pass(words, place, number_in(numbers, lane), clock);
         }
         closing
     }
 
-    // Sets the places behind those kept free, up to one.
-    fn free_up(self, words: &mut LedgerWords, to: usize) -> Closing
-        requires { (self.kept ≤ to) × (to ≤ ticket_limit) }
-        ensures all { result.kept ≡ to }
-        ensures put { settled words.new result ≡ put_places (settled words.old self) self.kept (replicate (to - self.kept) free_place) }
+    // Sets some places behind those kept free.
+    fn free_some(self, words: &mut LedgerWords, n: usize) -> Closing
+        requires { self.kept + n ≤ ticket_limit }
+        ensures all { result.kept ≡ self.kept + n }
+        ensures put { settled words.new result ≡ put_places (settled words.old self) self.kept (replicate n free_place) }
     {
         let mut closing = self;
-        for _ in self.kept..to {
+        for _ in 0..n {
             closing = closing.push(words, 0, &FREE);
         }
         closing
@@ -112,14 +116,11 @@ impl Closing {
         ensures { words.new ≡ put_places words.old (numbers_in_word * from) (replicate (numbers_in_word * (to - from)) free_place) }
     {
         for k in from..to {
-            Closing::whole(NUMBERS_IN_WORD * k).free_up(
-                words,
-                NUMBERS_IN_WORD * k + NUMBERS_IN_WORD,
-            );
+            Closing::whole(k).free_some(words, NUMBERS_IN_WORD);
         }
     }
 
-    // Sets the places behind those kept free, up to one: one by one those of the word at which the kept end, then by whole words, and then those of
+    // Sets the places behind those kept free, up to one: one by one those of the word at which the kept end, then by full words, and then those of
     // the last word.
     pub(crate) fn free(self, words: &mut LedgerWords, to: usize) -> Closing
         requires { (self.kept ≤ to) × (to ≤ ticket_limit) }
@@ -129,11 +130,11 @@ impl Closing {
         let begun = self.kept.div_ceil(NUMBERS_IN_WORD);
         let ended = to / NUMBERS_IN_WORD;
         if ended < begun {
-            return self.free_up(words, to);
+            return self.free_some(words, to - self.kept);
         }
-        self.free_up(words, NUMBERS_IN_WORD * begun);
+        self.free_some(words, NUMBERS_IN_WORD * begun - self.kept);
         Closing::free_words(words, begun, ended);
-        Closing::whole(NUMBERS_IN_WORD * ended).free_up(words, to)
+        Closing::whole(ended).free_some(words, to % NUMBERS_IN_WORD)
     }
 
     // A word of numbers, some of its first lanes as the last of those that wait.
@@ -154,8 +155,8 @@ impl Closing {
         if n == 0 {
             return;
         }
-        let k = self.kept / NUMBERS_IN_WORD;
-        let word = self.lanes_over(number_word(words, k), n);
-        swap_numbers(words, k, word);
+        let k = Place { index: self.kept }.word();
+        let word = self.lanes_over(k.read(words), n);
+        k.swap(words, word);
     }
 }

@@ -5,7 +5,7 @@ ghost use Rattle.definitions.specs.LedgerWords.{ticket_at, count_held, next_numb
 ghost use Rattle.ledger.specs.Lookups.{first_held, held_at, moment_at};
 
 use crate::search::{lane_of, passed};
-use crate::words::{LedgerWords, Place, count_held, next_number, number_word};
+use crate::words::{LedgerWords, NumberWord, Place, count_held, next_number};
 use definitions::{
     LAST_NUMBER, Moment, NUMBERS_IN_WORD, NUMBERS_START, Origin, TICKET_LIMIT, TWO_16, Ticket,
 };
@@ -51,7 +51,7 @@ impl<'a> HeldTickets<'a> {
         let near = passed::<16>(numbers, number);
         let next = near + passed::<4>(&numbers[near..], number);
         for k in next..self.count.div_ceil(NUMBERS_IN_WORD) {
-            if let Some(lane) = lane_of(number_word(self.words, k), number) {
+            if let Some(lane) = lane_of(NumberWord { index: k }.read(self.words), number) {
                 return self.place(NUMBERS_IN_WORD * k + lane);
             }
         }

@@ -4,6 +4,7 @@
 ghost use Rattle.std.specs.Prelude.{◌≡◌, ◌+◌, ◌<◌, ◌≤◌, ◌/◌, ◌%◌, get_or, set};
 ghost use Rattle.definitions.specs.Limits.{ticket_limit, number_bits, count_word, next_word, numbers_in_word, number_words, numbers_start, two56, two4, two32, two16, two48};
 ghost use Rattle.definitions.specs.Words.{lane_of, set_lane, put_lane, put_row};
+ghost use Rattle.definitions.specs.Clearing.{stays};
 ghost use Rattle.definitions.specs.LedgerWords.{place_start, place_at, origin_in, window_in, ticket_on, ticket_at, count_held, next_number, no_ticket_words};
 
 use definitions::{
@@ -61,23 +62,30 @@ pub(crate) fn fresh_ledger(words: &mut LedgerWords)
     *words = [0u64; LEDGER_SIZE];
 }
 
-// A word of the numbers.
-pub(crate) fn number_word(words: &LedgerWords, k: usize) -> u64
-    requires { k < number_words }
-    ensures { result ≡ get_or words.now (numbers_start + k) 0 }
-{
-    words[NUMBERS_START + k]
+// One of the words of the numbers, each of which has those of four places.
+#[derive(Clone, Copy)]
+pub(crate) struct NumberWord {
+    pub index: usize,
+    ghost there: { index < number_words },
 }
 
-// Puts a word of the numbers, and answers the one that was there, so that a proof knows that it fits a word.
-pub(crate) fn swap_numbers(words: &mut LedgerWords, k: usize, word: u64) -> u64
-    requires { k < number_words }
-    ensures answered { result ≡ get_or words.old (numbers_start + k) 0 }
-    ensures put { words.new ≡ set words.old (numbers_start + k) word }
-{
-    let old = words[NUMBERS_START + k];
-    words[NUMBERS_START + k] = word;
-    old
+impl NumberWord {
+    // The four numbers, as they stand.
+    pub(crate) fn read(self, words: &LedgerWords) -> u64
+        ensures { result ≡ get_or words.now (numbers_start + self.index) 0 }
+    {
+        words[NUMBERS_START + self.index]
+    }
+
+    // Puts it, and answers the one that was there, so that a proof knows that it fits a word.
+    pub(crate) fn swap(self, words: &mut LedgerWords, word: u64) -> u64
+        ensures answered { result ≡ get_or words.old (numbers_start + self.index) 0 }
+        ensures put { words.new ≡ set words.old (numbers_start + self.index) word }
+    {
+        let old = words[NUMBERS_START + self.index];
+        words[NUMBERS_START + self.index] = word;
+        old
+    }
 }
 
 // The number in a lane of a word of numbers.
@@ -158,15 +166,21 @@ pub(crate) struct Place {
 }
 
 impl Place {
+    // The word that has its number.
+    pub(crate) fn word(self) -> NumberWord
+        ensures { result.index ≡ self.index / numbers_in_word }
+    {
+        NumberWord {
+            index: self.index / NUMBERS_IN_WORD,
+        }
+    }
+
     // The number of its ticket.
     #[tactic(auto, unfolding(definitions::specs::LedgerWords::ticket_at, definitions::specs::LedgerWords::ticket_in, definitions::specs::Words::lane_at))]
     fn number(self, words: &LedgerWords) -> u16
         ensures { result ≡ (ticket_at words.now self.index).number }
     {
-        number_in(
-            number_word(words, self.index / NUMBERS_IN_WORD),
-            self.index % NUMBERS_IN_WORD,
-        )
+        number_in(self.word().read(words), self.index % NUMBERS_IN_WORD)
     }
 
     // Its four words.
@@ -188,6 +202,15 @@ impl Place {
         ensures { result ≡ (ticket_at words.now self.index).window }
     {
         window_in(self.row(words)[WINDOW_WORD])
+    }
+
+    // Whether its ticket stays at a clock reading (R7.6). A window's word has the end on top, so it is compared with the last that has ended.
+    // Form: the word and no `ended`, by which each place that a clearing goes past takes two instructions more.
+    #[tactic(auto, unfolding(definitions::specs::LedgerWords::ticket_at, definitions::specs::LedgerWords::ticket_in))]
+    pub(crate) fn stays(self, words: &LedgerWords, clock: u32) -> bool
+        ensures { result ≡ stays clock (ticket_at words.now self.index) }
+    {
+        self.row(words)[WINDOW_WORD] > TWO_32 * clock as u64 + (TWO_32 - 1)
     }
 
     // The origin of its ticket.
@@ -212,9 +235,12 @@ impl Place {
     pub(crate) fn put_number(self, words: &mut LedgerWords, number: u16)
         ensures { words.new ≡ put_lane number_bits words.old numbers_start self.index number }
     {
-        let k = self.index / NUMBERS_IN_WORD;
-        let word = number_word(words, k);
-        words[NUMBERS_START + k] = with_number(word, self.index % NUMBERS_IN_WORD, number);
+        let k = self.word();
+        let word = k.read(words);
+        k.swap(
+            words,
+            with_number(word, self.index % NUMBERS_IN_WORD, number),
+        );
     }
 
     // Puts its four words.

@@ -1,5 +1,5 @@
 use mathlib.Core.Path.{sym, ◌∙◌}
-use Prim.Native.Nat.{◌-◌, ◌*◌, ◌/◌}
+use Prim.Native.Nat.{◌-◌, ◌*◌, ◌/◌, ◌%◌}
 use native.Mathlib.Omega.{arith}
 use Rattle.ledger.specs.ClosingUp.{settled}
 use Rattle.ledger.proofs.ClosingUp.{settled-full, free_on}
@@ -12,7 +12,7 @@ returns-clause-put c =
     let kept = a.self.kept in
     let begun = 4 * c.div_ceil-begun.result in
     let ended = 4 * (a.to / 4) in
-    let head = c.free_up-2 in
+    let head = c.free_some-2 in
     let words = c.free_words in
     let start = c.whole.result in
     let full = settled-full head.new.words head.result (omega arith) (omega arith) in
@@ -20,4 +20,4 @@ returns-clause-put c =
     let some = words.ensures
     ∙ free_on first head.new.words kept begun (begun - kept) (4 * (a.to / 4 - c.div_ceil-begun.result)) (ended - kept) (sym full ∙ head.ensures.put) (omega arith) (omega arith)
     in
-    c.free_up-3.ensures.put ∙ free_on first (settled words.new.words start) kept start.kept (ended - kept) (a.to - start.kept) (a.to - kept) (after ∙ some) (omega arith) (omega arith)
+    c.free_some-3.ensures.put ∙ free_on first (settled words.new.words start) kept start.kept (ended - kept) (a.to % 4) (a.to - kept) (after ∙ some) (omega arith) (omega arith)

@@ -17,7 +17,7 @@ loop-k-preserved c =
     let l = c.loop-k in
     let a = c.args in
     let start = c.whole in
-    let put = c.free_up in
+    let put = c.free_some in
     let full = settled-full l.words start.result (omega arith) (omega arith) in
     sym (settled-full put.new.words put.result (omega arith) (omega arith)) ∙ put.ensures.put
-    ∙ free_on a.words.now (settled l.words start.result) (4 * a.from) start.result.kept (4 * (l.k - a.from)) (4 * l.k + 4 - start.result.kept) (4 * (l.k + 1 - a.from)) (full ∙ l.invariant) (omega arith) (omega arith)
+    ∙ free_on a.words.now (settled l.words start.result) (4 * a.from) start.result.kept (4 * (l.k - a.from)) 4 (4 * (l.k + 1 - a.from)) (full ∙ l.invariant) (omega arith) (omega arith)

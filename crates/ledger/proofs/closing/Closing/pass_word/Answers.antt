@@ -1,21 +1,23 @@
-use mathlib.Core.Path.{ap, ◌∙◌}
-use Prim.Native.Nat.{ℕ, ◌-◌, ◌*◌, ◌/◌, ◌%◌, ◌^◌}
+use mathlib.Core.Path.{◌≡◌, ap, ◌∙◌}
+use Prim.Native.Nat.{ℕ, ◌+◌, ◌*◌}
 use native.Mathlib.Omega.{arith}
-use Rattle.definitions.specs.Limits.{two16}
-use Rattle.ledger.proofs.ClosingUp.{lanes_on, closed-number}
+use Rattle.definitions.specs.Limits.{number_bits}
+use Rattle.definitions.specs.Words.{lane_of}
+use Rattle.ledger.proofs.ClosingUp.{closed-number}
 use Rattle.ledger.proofs.closing.Closing.pass_word.Goals as goal
 
-pub loop-i-preserved : goal.loop-i-preserved
-loop-i-preserved c =
+pub loop-lane-preserved : goal.loop-lane-preserved
+loop-lane-preserved c =
     let a = c.args in
-    let l = c.loop-i in
-    let word = c.number_word-rest in
-    let r = c.pass-closing in (
-      r.ensures.within,
-      ap (λ (x : ℕ). x / two16) l.invariant.1 ∙ lanes_on word.result l.i a.from (omega arith),
+    let l = c.loop-lane in
+    let passed = c.pass-closing in
+    let e : 4 * a.k.index + l.lane + 1 ≡ 4 * a.k.index + (l.lane + 1) = omega arith in (
+      omega arith,
       λ w d.
-          r.ensures.passed w
-          (ap (λ (x : ℕ). x % two16) (l.invariant.1 ∙ ap (λ (x : ℕ). x / 2 ^ (16 * (l.i - a.from))) word.ensures)
-          ∙ closed-number w a.clock a.from a.words.now a.self (omega arith) d l.i (omega arith) (omega arith) (omega arith) (omega arith))
-          (l.invariant.2 w d),
+          rw e at
+          (passed.ensures.passed w
+          (c.number_in.ensures
+          ∙ ap (λ (x : ℕ). lane_of number_bits x l.lane) c.read-numbers.ensures
+          ∙ closed-number w a.clock (4 * a.k.index) a.words.now a.self (omega arith) d a.k.index l.lane (omega arith) (omega arith) (omega arith))
+          (l.invariant.1 w d)),
     )

@@ -9,7 +9,7 @@ returns-clause-put c =
     let a = c.args in
     elim c.if-kept-eq0.branch [
       | then-kept-eq0 w ↦
-          rw (w.words-is, w.swap_numbers.ensures.put)
+          rw (w.words-is, w.swap.ensures.put, w.word.ensures)
           (pushed-full a.words.now a.self (omega arith) a.number (omega arith) _ refl refl w.if-kept-eq0.true (omega arith))
       | else-kept-eq0 w ↦ rw w.words-is (pushed-on a.words.now a.self (omega arith) a.number (omega arith) _ refl refl w.if-kept-eq0.false)
     ]

@@ -30,7 +30,7 @@ returns-in-Some c =
     let number = c.args.number in
     let k = c.loop-k.k in
     let lane = c.in-Some.lane in
-    let found = rw c.number_word.ensures at c.in-Some.ensures in
+    let found = rw c.read.ensures at c.in-Some.ensures in
     c.place.ensures
     ∙ sym (first-at w number (4 * k + lane) (none_more w number 0 (4 * k) (4 * k + lane) c.loop-k.invariant (none_before w number k lane (omega (arith, found.0)) found.1)) (lane-found w number k lane found.0 found.2))
 
@@ -40,8 +40,8 @@ loop-k-preserved c =
     let number = c.args.number in
     let k = c.loop-k.k in
     let e : 4 * k + 4 ≡ 4 * (k + 1) = omega arith in
-    let none = lane-none c.number_word.result number c.lane_of.result c.in_default.is c.lane_of.ensures in
-    none_more w number 0 (4 * k) (4 * (k + 1)) c.loop-k.invariant (rw e at (none_before w number k 4 (omega arith) (rw c.number_word.ensures at none)))
+    let none = lane-none c.read.result number c.lane_of.result c.in_default.is c.lane_of.ensures in
+    none_more w number 0 (4 * k) (4 * (k + 1)) c.loop-k.invariant (rw e at (none_before w number k 4 (omega arith) (rw c.read.ensures at none)))
 
 pub returns : goal.returns
 returns c =
