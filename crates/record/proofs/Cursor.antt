@@ -27,11 +27,13 @@ use Rattle.definitions.specs.Words.{pack_at}
 use Rattle.definitions.proofs.Words.{pack-shift, pack-zero}
 use Rattle.definitions.proofs.Lists.{sets-append, sets_last}
 use lib.Bits.{bit_or, or_add_and, and_le_l}
-use Rattle.definitions.specs.Requests.{request_layout, needed_bits, path_of}
+use Rattle.definitions.specs.Requests.{request_layout, needed_bits, kind_of, path_of}
+use Rattle.definitions.specs.declared.request.Kind.{Kind}
 use Rattle.record.specs.Drafts.{size_of}
 use Rattle.definitions.specs.RequestWriting.{RequestParts, map_of_parts, part_values, writable, request_of, request_written, request_output}
 use Rattle.std.specs.Prelude.{Option, Some, None, Ok, Err}
-use Rattle.definitions.proofs.Requests.{allowed-small, path-above, path-other}
+use Rattle.std.specs.Result.{result_ok}
+use Rattle.definitions.proofs.Requests.{allowed-small, path_above, path_no_kind, kind_read}
 
 -- ---- Taking
 -- a number with a byte missing is taken as 0
@@ -236,19 +238,16 @@ none_told false y e = refl
 
 -- ---- The map of a request that is written
 -- a number that is no kind
-pub map_other : (k f : ℕ) → 4 < k → None ≡ map_with k f
+pub map_no_kind : (k f : ℕ) → ◌≡◌ {A = Option Kind} None (result_ok (kind_of k)) → None ≡ map_with k f
 unfolding map_with
-map_other k f l =
-    let e : None ≡ path_of k (bit_or (needed_bits k) f) =
-    path-other k _ (λ e. absurd (omega arith)) (λ e. absurd (omega arith)) (λ e. absurd (omega arith)) (λ e. absurd (omega arith)) in
-    rw (sym e)
+map_no_kind k f e = rw (sym (path_no_kind k (bit_or (needed_bits k) f) (e ∙ kind_read k)))
 
 -- a mask with bits above those of the fields
-pub map-above : (k f : ℕ) → 255 < f → None ≡ map_with k f
+pub map_above : (k f : ℕ) → 255 < f → None ≡ map_with k f
 unfolding map_with
-map-above k f l =
+map_above k f l =
     let e : None ≡ path_of k (bit_or (needed_bits k) f) =
-    path-above k k _ refl (omega (arith, allowed-small k, or_add_and (needed_bits k) f, and_le_l (needed_bits k) f)) in
+    path_above k k _ refl (omega (arith, allowed-small k, or_add_and (needed_bits k) f, and_le_l (needed_bits k) f)) in
     rw (sym e)
 
 -- the map that the code finds is that of writable parts

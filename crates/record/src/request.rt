@@ -2,7 +2,7 @@
 ghost use Rattle.std.specs.Prelude.{◌≡◌, ◌==◌, if◌then◌else◌, ◌+◌, ◌≤◌, ◌<◌, length};
 ghost use Rattle.definitions.specs.Fields.{map_of, end_of, field_of};
 ghost use Rattle.record.specs.Cursor.{parts_of};
-ghost use Rattle.definitions.specs.Requests.{request_layout, needed_bits, map_fits, path_if, path_of, embedded_in, request_for, read_request};
+ghost use Rattle.definitions.specs.Requests.{request_layout, kind_number, needed_bits, map_fits, path_if, path_of, embedded_in, request_for, read_request};
 
 use crate::form::Form;
 use crate::reader::read_ticket;
@@ -28,50 +28,49 @@ pub(crate) const LAYOUT: [Field; 8] = [
 ];
 
 // The map bits that a kind needs.
-// Form: a kind is a number here, as bytes and callers give it; it becomes a `Kind` in `path_of`, whose match and tables are a rule of the project.
-pub(crate) fn needed_bits(kind: usize) -> u16
-    requires { kind < 5 }
-    ensures exact { result ≡ needed_bits kind }
-    ensures bounded { result < 256 }
+pub(crate) fn needed_bits(kind: Kind) -> u16
+    ensures { result ≡ needed_bits (kind_number kind) }
 {
-    NEEDED[kind]
+    NEEDED[u8::from(kind) as usize]
 }
 
 // Whether a map has the bits that a kind needs, and none beyond those that it may have.
 #[tactic(auto, unfolding(definitions::specs::Requests::map_fits))]
-fn map_fits(kind: usize, map: u16) -> bool
-    requires { kind < 5 }
-    ensures { result ≡ map_fits kind map }
+fn map_fits(kind: Kind, map: u16) -> bool
+    ensures { result ≡ map_fits (kind_number kind) map }
 {
-    NEEDED[kind] & map == NEEDED[kind] && ALLOWED[kind] & map == map
+    let needed = needed_bits(kind);
+    needed & map == needed && ALLOWED[u8::from(kind) as usize] & map == map
 }
 
 // A kind where the table has the map.
-fn path_if(fits: bool, kind: Kind) -> Option<Kind>
-    ensures { result ≡ path_if fits kind }
+fn path_if(kind: Kind, map: u16) -> Option<Kind>
+    ensures { result ≡ path_if (map_fits (kind_number kind) map) kind }
 {
-    if fits { Some(kind) } else { None }
+    map_fits(kind, map).then_some(kind)
 }
 
 // The kind of a number where the map is of it. A range also holds maps that are not of the kind, so the table decides.
+// Form: a kind is a number here, as it was read; the match over it and ranges of maps is a rule of the project.
+#[tactic(auto, using(definitions::proofs::Requests::path_table, definitions::proofs::Requests::path_below, definitions::proofs::Requests::path_above, definitions::proofs::Requests::path_other))]
 pub(crate) fn path_of(kind: u8, map: u16) -> Option<Kind>
     ensures { result ≡ path_of kind map }
 {
     match kind {
         1 => match map {
-            0x41..=0x4B => path_if(map_fits(1, map), Kind::Initial),
+            0x41..=0x4B => path_if(Kind::Initial, map),
             _ => None,
         },
         2 => match map {
-            0x91..=0x9B => path_if(map_fits(2, map), Kind::Direct),
+            0x91..=0x9B => path_if(Kind::Direct, map),
             _ => None,
         },
         3 => match map {
-            0x51..=0x5B => path_if(map_fits(3, map), Kind::S4U2self),
+            0x51..=0x5B => path_if(Kind::S4U2self, map),
             _ => None,
         },
         4 => match map {
-            0xB3..=0xBF => path_if(map_fits(4, map), Kind::S4U2proxy),
+            0xB3..=0xBF => path_if(Kind::S4U2proxy, map),
             _ => None,
         },
         _ => None,

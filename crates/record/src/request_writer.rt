@@ -11,7 +11,7 @@ use crate::present;
 use crate::reader::read_ticket;
 use crate::request::{LAYOUT, needed_bits, path_of};
 use crate::writer::put;
-use definitions::{Error, TWO_8, TWO_32};
+use definitions::{Error, Kind, TWO_8, TWO_32};
 
 // What a request is written from: four numbers, the records of two tickets, two names, and a mask of the optional fields that stand.
 // Form: numbers for the kind and for what stands, and no `Kind` and Options, since any are taken, and what no request can have is refused (R4.8).
@@ -29,14 +29,14 @@ pub struct Draft<'a> {
 }
 
 // The map of a kind with a mask of fields, if there is one.
+#[tactic(auto, using(crate::proofs::Cursor::map_no_kind, crate::proofs::Cursor::map_above), unfolding(crate::specs::Cursor::map_with))]
 fn map_with(kind: u32, fields: u32) -> Option<u16>
     ensures { result ≡ map_with kind fields }
 {
-    if 4 < kind || 255 < fields {
-        return None;
-    }
-    let map = needed_bits(kind as usize) | fields as u16;
-    path_of(kind as u8, map)?;
+    let kind = Kind::try_from(kind).ok()?;
+    let fields = u8::try_from(fields).ok()?;
+    let map = needed_bits(kind) | u16::from(fields);
+    path_of(u8::from(kind), map)?;
     Some(map)
 }
 
