@@ -1,6 +1,6 @@
 use Prim.Native.Nat.{◌/◌, ◌^◌}
 use native.Mathlib.Omega.{arith}
-use borrow.Author.Tests.{le-leb, lt-leb}
+use borrow.Author.Tests.{le-leb}
 use lib.Bits.{and_mask}
 use Rattle.definitions.specs.Fields.{has_bit}
 use Rattle.record.proofs.has_bit.Goals as goal

@@ -1,7 +1,6 @@
 use mathlib.Core.Path.{refl, sym, ◌∙◌}
 use native.Mathlib.Omega.{arith}
 use lib.ListN.{length}
-use Rattle.std.proofs.lemmas.Result.{err_from_is_err_and}
 use Rattle.definitions.specs.Fields.{Bytes}
 use Rattle.definitions.specs.declared.error.Error.TheVariants.{KRB_ERR_GENERIC}
 use Rattle.definitions.specs.Services.{Service}

@@ -1,6 +1,4 @@
-use Rattle.std.proofs.Common.{◌≤◌, length, sym, ◌∙◌, arith, Some}
-use borrow.Author.Tests.{eq-eqb, ne_eqb}
-use Rattle.definitions.specs.Fields.{end_of}
+use Rattle.std.proofs.Common.{sym}
 use Rattle.definitions.specs.Requests.{request_layout}
 use Rattle.definitions.proofs.Fields.{offset-first}
 use Rattle.record.proofs.request.parts_of.Goals as goal

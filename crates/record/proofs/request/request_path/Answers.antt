@@ -1,4 +1,4 @@
-use Rattle.std.proofs.Common.{sym, ◌∙◌, arith}
+use Rattle.std.proofs.Common.{sym}
 use Rattle.definitions.specs.Requests.{request_layout}
 use Rattle.definitions.proofs.Fields.{offset-first}
 use Rattle.record.proofs.request.request_path.Goals as goal

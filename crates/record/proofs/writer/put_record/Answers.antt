@@ -1,8 +1,7 @@
-use Rattle.std.proofs.Common.{◌≤◌, length, refl, sym, arith, rules}
-use lib.Seq.{length-take-le}
+use Rattle.std.proofs.Common.{refl, sym}
 use Rattle.definitions.specs.Fields.{bytes_to}
-use Rattle.definitions.specs.TicketRecords.{ticket_layout, values_of, record_as}
-use Rattle.record.proofs.Cursor.{size-most, wrote_then, wrote-mark}
+use Rattle.definitions.specs.TicketRecords.{values_of, record_as}
+use Rattle.record.proofs.Cursor.{wrote_then, wrote-mark}
 use Rattle.record.proofs.writer.put_record.Goals as goal
 
 pub returns-clause-put : goal.returns-clause-put
