@@ -110,7 +110,7 @@ impl Closing {
     }
 
     // Sets the places free whose numbers stand in the words from one on up to another.
-    // Form: place by place and no `fill`, by which a clearing of 512 places takes four times as many instructions.
+    // Form: place by place and no `fill`, by which the clearing of 512 tickets that have all ended took 20,184 instructions, where 4,774 were to be met.
     fn free_words(words: &mut LedgerWords, from: usize, to: usize)
         requires { (from ≤ to) × (to ≤ number_words) }
         ensures { words.new ≡ put_places words.old (numbers_in_word * from) (replicate (numbers_in_word * (to - from)) free_place) }

@@ -79,6 +79,7 @@ fn value_answer(number: Result<usize, Error>) -> TicketsAnswer
 }
 
 // Reads a ticket record, and writes it to the output's start: 60 where the reader refuses, else what the writer answers.
+// Form: a match and no `and_then`, whose closure would hold the output that the promise is about.
 #[tactic(auto, using(crate::proofs::Calls::read_fits))]
 #[unsafe(no_mangle)]
 pub extern "C" fn tickets_rewrite(bytes: &[u8], output: &mut [u8]) -> TicketsAnswer
