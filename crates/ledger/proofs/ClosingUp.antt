@@ -171,6 +171,12 @@ put_last : (w : List ℕ) (cs : List Place) (c : Place) → put_places w 0 (cs +
 unfolding put_places
 put_last w cs c = put-append w 0 cs (c ∷ []) ∙ rw zero-add
 
+-- a word without its first lanes, and without one more
+pub lanes_on : (x i from : ℕ) → from ≤ i → x / 2 ^ (number_bits * (i - from)) / two16 ≡ x / 2 ^ (number_bits * (i + 1 - from))
+lanes_on x i from h =
+    let e : 16 * (i + 1 - from) ≡ 16 * (i - from) + 16 = omega arith in
+    rw e (shr-shr x (16 * (i - from)) 16)
+
 -- ---- Places closed up
 -- one place more, whose ticket stays or goes
 staying-more : (w : List ℕ) (clock i : ℕ)

@@ -1,8 +1,8 @@
 -- Laws of saving and loading as the code goes along: words put one behind the other, the check sum behind them, and words read one by one.
 -- Assumes nothing.
 use mathlib.Core.Path.{◌≡◌, refl, sym, ap, ◌∙◌}
-use mathlib.Core.List.{List, [], ◌∷◌, ◌++◌, append_assoc}
-use Prim.Native.Nat.{ℕ, ◌+◌, ◌*◌, ◌≤◌, ◌<◌}
+use mathlib.Core.List.{List, [], ◌∷◌, ◌++◌, append-nil, append_assoc}
+use Prim.Native.Nat.{ℕ, suc, ◌+◌, ◌*◌, ◌≤◌, ◌<◌}
 use native.Mathlib.Nat.{mul-le-mul, div-div-eq-div-mul}
 use Rattle.std.specs.Int.{w64, to_be_bytes, from_be_bytes}
 use Rattle.std.proofs.lemmas.List.{take-append-drop}
@@ -11,7 +11,7 @@ use borrow.Rule.Slice.PartMut.{put_mid}
 use native.Mathlib.Numerals.{add-one}
 use native.Mathlib.Omega.{arith}
 use lib.ListN.{length, get_or, take, drop, set}
-use lib.Seq.{take-suc-set, take-length, get_or-take, get_or-drop}
+use lib.Seq.{sets, take-suc-set, take-length, length-take-le, get_or-take, get_or-drop}
 use borrow.Author.Tests.{le-leb}
 use lib.Dec.{leb}
 use mathlib.Core.Bool.{true}
@@ -21,7 +21,9 @@ use Rattle.definitions.specs.Limits.{accounts_size, ledger_size, word_size, sum_
 use Rattle.definitions.specs.Fields.{number_at, big_endian}
 use Rattle.definitions.specs.Services.{Service}
 use Rattle.definitions.specs.Saving.{word_bytes, weighted_sum, byte_sum, counted_place, place_sum, saved_body, with_sums, saved_of, words_at}
-use Rattle.definitions.proofs.Saving.{words_more, sum-front, length-body}
+use Rattle.definitions.proofs.Lists.{sets-append}
+use Rattle.definitions.proofs.Fields.{length-big_endian}
+use Rattle.definitions.proofs.Saving.{length-words, words_more, sum-front, length-body}
 
 -- ---- The check sum
 -- no byte, and a byte more
@@ -55,13 +57,25 @@ word_read s ys at n h f =
 
 -- ---- Putting
 -- a word behind those that were put
-pub put_next : (s before bytes ws : List ℕ) (place size next i j : ℕ) → next ≡ place + word_size → j ≡ i + 1 → place ≤ length s → i < length ws
+pub word_put : (s before bytes ws : List ℕ) (place size next i j : ℕ) → next ≡ place + word_size → j ≡ i + 1 → place ≤ length s → i < length ws
     → bytes ≡ to_be_bytes w64 (get_or ws i 0) → take place s ≡ before ++ word_bytes (take i ws)
     → take next (put_mid place size s bytes) ≡ before ++ word_bytes (take j ws)
-put_next s before bytes ws place size next i j m n room h e f =
+word_put s before bytes ws place size next i j m n room h e f =
     let x : ℕ = get_or ws i 0 in
     let put = take-put_mid place size s (to_be_bytes w64 x) (place + word_size) refl room in
     rw (m, n, e) (put ∙ rw (f, high_first x, add-one, words_more ws i h) (append_assoc before (word_bytes (take i ws)) (big_endian word_size x)))
+
+-- the same of words anywhere, and of two words
+pub put_next : (l ws : List ℕ) (at i : ℕ) → i < length ws
+    → sets (sets l at (word_bytes (take i ws))) (at + word_size * i) (big_endian word_size (get_or ws i 0)) ≡ sets l at (word_bytes (take (suc i) ws))
+put_next l ws at i h =
+    let le : i ≤ length ws = omega arith in
+    sym (rw (words_more ws i h, sets-append l at (word_bytes (take i ws)) (big_endian word_size (get_or ws i 0)), length-words (take i ws), length-take-le i ws le))
+
+pub put_two : (l : List ℕ) (at x y : ℕ) → sets (sets l at (big_endian word_size x)) (at + word_size) (big_endian word_size y) ≡ sets l at (word_bytes (x ∷ y ∷ []))
+unfolding word_bytes
+put_two l at x y =
+    sym (rw (append-nil (big_endian word_size y), sets-append l at (big_endian word_size x) (big_endian word_size y), length-big_endian word_size x))
 
 -- the sum of what was put
 sum-put : (f : ℕ → ℕ) (s bytes : List ℕ) (n : ℕ) → take n s ≡ bytes → length bytes ≡ n → weighted_sum f s n ≡ weighted_sum f bytes (length bytes)

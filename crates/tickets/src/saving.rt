@@ -14,7 +14,7 @@ use rules::AccountWords;
 pub(crate) type Saved = [u8; SAVED_SIZE];
 
 // Puts words behind what stands before a position, each big-endian.
-#[tactic(auto, using(crate::proofs::SavedBytes::put_next), unfolding(definitions::specs::Saving::word_bytes))]
+#[tactic(auto, using(crate::proofs::SavedBytes::word_put), unfolding(definitions::specs::Saving::word_bytes))]
 fn put_words(saved: &mut Saved, at: usize, words: &[u64])
     requires { at + word_size * length words.now ≤ saved_size }
     ensures { take (at + word_size * length words.now) saved.new ≡ take at saved.old ++ word_bytes words.now }
