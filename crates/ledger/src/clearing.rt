@@ -14,6 +14,7 @@ use crate::words::{LedgerWords, NumberWord, Place, put_count};
 use definitions::NUMBERS_IN_WORD;
 
 // Whether the tickets stay at all places whose numbers stand in a word.
+// Form: it and `any_stays` are two, since one tells what holds of all four places, and the other what holds of none.
 fn all_stay(words: &LedgerWords, k: NumberWord, clock: u32) -> bool
     ensures { result ≡ true → AllStay words.now clock (numbers_in_word * k.index) → AllStay words.now clock (numbers_in_word * (k.index + 1)) }
 {

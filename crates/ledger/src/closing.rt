@@ -6,10 +6,11 @@ use crate::words::{LedgerWords, NumberWord, Place, Row, number_in};
 use definitions::{NUMBER_BITS, NUMBERS_IN_WORD, PLACE_SIZE, TWO_16, TWO_48};
 
 // How far the places are closed up: how many are kept, and the last four numbers kept, the last of them on top. Those that do not fill a word wait.
+// Form: the words are lent to each method and are no field, since what is promised speaks of them before and after, which a field would have lent.
 #[derive(Clone, Copy)]
-pub struct Closing {
-    pub kept: usize,
-    pub numbers: u64,
+pub(crate) struct Closing {
+    pub(crate) kept: usize,
+    pub(crate) numbers: u64,
     ghost within: { kept ≤ ticket_limit },
 }
 
