@@ -3,7 +3,7 @@ ghost use Rattle.std.specs.Prelude.{◌≡◌, List, [], ℕ, ◌≤◌, length,
 ghost use Rattle.definitions.specs.TicketRecords.{record_of};
 ghost use Rattle.definitions.specs.Limits.{longest_record, ticket_limit};
 ghost use Rattle.definitions.specs.AccountWords.{table_of};
-ghost use Rattle.definitions.specs.Edits.{edit_of};
+ghost use Rattle.definitions.specs.Edits.{edit_by};
 ghost use Rattle.definitions.specs.LedgerWords.{count_held, next_number, tickets_of};
 ghost use Rattle.definitions.specs.Answers.{decide_read, decide_request, given, ungranted};
 ghost use Rattle.definitions.specs.Answers.{edit as an-edit, request as a-request, clear as a-clearing};
@@ -16,7 +16,7 @@ use crate::clearing::clear_tickets;
 use crate::held::HeldTickets;
 use crate::storing::store_ticket;
 use crate::words::{LedgerWords, fresh_ledger};
-use definitions::{Error, Granted, Kind, Request, Settings, Ticket};
+use definitions::{Edit, Error, Granted, Kind, Request, Ticket};
 use rules::{
     AccountWords, Question, check_room, edit_account, fresh_accounts, read_rest, request_path,
     write_ticket,
@@ -31,15 +31,10 @@ pub fn fresh(accounts: &mut AccountWords, ledger: &mut LedgerWords)
 }
 
 // Sets one account whole, or refuses; whatever the ledger holds, it stays.
-pub fn edit(
-    accounts: &mut AccountWords,
-    number: u32,
-    name: &[u8],
-    settings: Settings,
-) -> Result<(), Error>
-    ensures { (l : List ℕ) → record { reply = record { answer = ungranted result; output = []; cleared = 0 }; service = record { accounts = accounts.new; ledger = l } } ≡ perform (record { accounts = accounts.old; ledger = l }) (an-edit (edit_of number name.now settings.flags settings.send settings.receive settings.lifetime)) }
+pub fn edit(accounts: &mut AccountWords, edit: Edit) -> Result<(), Error>
+    ensures { (l : List ℕ) → record { reply = record { answer = ungranted result; output = []; cleared = 0 }; service = record { accounts = accounts.new; ledger = l } } ≡ perform (record { accounts = accounts.old; ledger = l }) (an-edit (edit_by edit.entry)) }
 {
-    edit_account(accounts, number, name, settings)
+    edit_account(accounts, edit)
 }
 
 // What a question is answered: by its request's kind, with only that looked up which the kind presents.

@@ -4,12 +4,12 @@ ghost use Rattle.definitions.specs.Limits.{account_limit, all_flags};
 ghost use Rattle.definitions.specs.AccountWords.{table_of, store_row, stored_by};
 ghost use Rattle.definitions.specs.Names.{name_of};
 ghost use Rattle.rules.specs.NameSearch.{bytes_of};
-ghost use Rattle.definitions.specs.Edits.{edit_of, readable_edit, keeps_name, edit_answer, edit_row, edited};
+ghost use Rattle.definitions.specs.Edits.{edit_by, readable_edit, keeps_name, edit_answer, edit_row, edited};
 
 use crate::check::ensure;
 use crate::name::{SetName, name_taken};
 use crate::words::{AccountWords, Row, put_row};
-use definitions::{ALL_FLAGS, Error, LAST_ACCOUNT, Settings, TWO_8, TWO_32};
+use definitions::{ALL_FLAGS, Edit, Error, LAST_ACCOUNT, Settings, TWO_8, TWO_32};
 use record::{good_name, pack_name, set_length};
 
 // An edit that is readable: it has an account's number, a good name, in words, and no other flags than the four.
@@ -26,18 +26,18 @@ struct GoodEdit {
 impl GoodEdit {
     ghost use Rattle.rules.specs.GoodEdits.{edit_in};
 
-    // The edit of these values, if it is readable. What is not is known before its name is packed.
-    fn read(number: u32, name: &[u8], settings: Settings) -> Option<GoodEdit>
-        ensures { let edit = edit_of number name.now settings.flags settings.send settings.receive settings.lifetime in MatchOption result (readable_edit edit ≡ false) (λ good. (edit_in good ≡ edit) × (readable_edit edit ≡ true)) }
+    // The edit, if it is readable. What is not is known before its name is packed.
+    fn read(edit: Edit) -> Option<GoodEdit>
+        ensures { let brought = edit_by edit.entry in MatchOption result (readable_edit brought ≡ false) (λ good. (edit_in good ≡ brought) × (readable_edit brought ≡ true)) }
     {
-        if number <= LAST_ACCOUNT && good_name(name) && settings.flags <= ALL_FLAGS {
+        if edit.number <= LAST_ACCOUNT && good_name(edit.name) && edit.settings.flags <= ALL_FLAGS {
             let name = SetName {
-                name: pack_name(name),
+                name: pack_name(edit.name),
             };
             return Some(GoodEdit {
-                number: number as usize,
+                number: edit.number as usize,
                 name,
-                settings,
+                settings: edit.settings,
             });
         }
         None
@@ -80,17 +80,12 @@ impl GoodEdit {
 
 // Sets one account whole, or refuses.
 #[tactic(auto, unfolding(definitions::specs::Edits::edit_checks))]
-pub fn edit_account(
-    words: &mut AccountWords,
-    number: u32,
-    name: &[u8],
-    settings: Settings,
-) -> Result<(), Error>
-    ensures answer { let edit = edit_of number name.now settings.flags settings.send settings.receive settings.lifetime in result ≡ edit_answer (table_of words.old) edit }
-    ensures words { let edit = edit_of number name.now settings.flags settings.send settings.receive settings.lifetime in words.new ≡ stored_by result words.old edit }
-    ensures table { let edit = edit_of number name.now settings.flags settings.send settings.receive settings.lifetime in table_of words.new ≡ edited (table_of words.old) edit }
+pub fn edit_account(words: &mut AccountWords, edit: Edit) -> Result<(), Error>
+    ensures answer { result ≡ edit_answer (table_of words.old) (edit_by edit.entry) }
+    ensures words { words.new ≡ stored_by result words.old (edit_by edit.entry) }
+    ensures table { table_of words.new ≡ edited (table_of words.old) (edit_by edit.entry) }
 {
-    let edit = GoodEdit::read(number, name, settings).ok_or(Error::KRB_ERR_GENERIC)?;
+    let edit = GoodEdit::read(edit).ok_or(Error::KRB_ERR_GENERIC)?;
     ensure(edit.keeps_name(words), Error::KDC_ERR_POLICY)?;
     ensure(
         !name_taken(words, edit.number, edit.name),

@@ -23,8 +23,8 @@ ghost use Rattle.definitions.specs.Saving.{save_answer, save_output, load_answer
 ghost use Rattle.tickets.specs.Calls.{library_version, value_answer, rewrite_answer, rewrite_output, match_number, request_fields, fields_after, account_answer, account_fields_after, account_name_after, record_at_answer, record_at_output, ticket_at_answer, ticket_at_fields, EditCall, RequestCall, ClearCall};
 
 use definitions::{
-    ACCOUNTS_PLACE, Error, Kind, LAST_ACCOUNT, LAYOUT, LEDGER_PLACE, Origin, Request, SAVED_SIZE,
-    Settings, Ticket,
+    ACCOUNTS_PLACE, Edit, Error, Kind, LAST_ACCOUNT, LAYOUT, LEDGER_PLACE, Origin, Request,
+    SAVED_SIZE, Settings, Ticket,
 };
 use ledger::LedgerWords;
 use record::Draft;
@@ -196,7 +196,12 @@ pub extern "C" fn tickets_edit(
         receive,
         lifetime,
     };
-    record::answer_number(ledger::edit(accounts, number, name, settings))
+    let edit = Edit {
+        number,
+        name,
+        settings,
+    };
+    record::answer_number(ledger::edit(accounts, edit))
 }
 
 // The number of the account that a name stands for, 64 where it is unknown.
