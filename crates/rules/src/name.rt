@@ -11,7 +11,7 @@ use definitions::{ACCOUNT_LIMIT, Name};
 use record::{pack_name, set_length};
 
 // Whether the bytes of two words agree, with letter case ignored or not.
-// Form: a flag and no closure, since the definition has the same flag, and one proof serves both.
+// Form: a flag and no closure, since the definitions have the flag, and a closure would need its own contract at each of the two callers of `Row::same_name`.
 fn words_agree(ignore: bool, a: u64, b: u64) -> bool
     ensures { result ≡ words_agree ignore a b }
 {
@@ -101,7 +101,7 @@ pub(crate) fn find_packed(words: &AccountWords, name: Name) -> Option<usize>
 }
 
 // The account that a name stands for, one past the last where it is unknown.
-// Form: 64 and no Option, since R2.11 has that answer.
+// Form: 64 and no Option, since R2.11 answers an unknown name so, and the C interface passes that number on.
 pub fn find_name(words: &AccountWords, bytes: &[u8]) -> usize
     ensures exact { result ≡ find_name (table_of words.now) bytes.now }
     ensures bounded { result ≤ account_limit }

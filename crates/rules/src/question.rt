@@ -12,7 +12,7 @@ use definitions::{ACCOUNT_LIMIT, Moment, Named, Presented, Principal, Request, S
 use record::name_in;
 
 // The account that a name in the request's bytes stands for, with its number.
-// Form: no Option, since by R2.7 an unknown name stands for one past the last account, which was never set.
+// Form: 64 and no Option, since a decision goes on with an account whatever the name is, and an unknown name is checked as an account that was never set (R2.4, R6.5).
 fn find_named(words: &AccountWords, bytes: &[u8], span: Span) -> Named
     ensures { result ≡ named (table_of words.now) (part_of bytes.now span) }
 {
