@@ -50,30 +50,28 @@ fn path_if(kind: Kind, map: u16) -> Option<Kind>
     map_fits(kind, map).then_some(kind)
 }
 
-// The kind of a number where the map is of it. A range also holds maps that are not of the kind, so the table decides.
-// Form: a kind is a number here, as it was read; the match over it and ranges of maps is a rule of the project.
-#[tactic(auto, using(definitions::proofs::Requests::path_table, definitions::proofs::Requests::path_below, definitions::proofs::Requests::path_above, definitions::proofs::Requests::path_other))]
-pub(crate) fn path_of(kind: u8, map: u16) -> Option<Kind>
-    ensures { result ≡ path_of kind map }
+// A kind where the map is of it. A range also holds maps that are not of the kind, so the table decides.
+#[tactic(auto, using(definitions::proofs::Requests::path_table, definitions::proofs::Requests::path_below, definitions::proofs::Requests::path_above))]
+pub(crate) fn path_of(kind: Kind, map: u16) -> Option<Kind>
+    ensures { result ≡ path_of (kind_number kind) map }
 {
     match kind {
-        1 => match map {
-            0x41..=0x4B => path_if(Kind::Initial, map),
+        Kind::Initial => match map {
+            0x41..=0x4B => path_if(kind, map),
             _ => None,
         },
-        2 => match map {
-            0x91..=0x9B => path_if(Kind::Direct, map),
+        Kind::Direct => match map {
+            0x91..=0x9B => path_if(kind, map),
             _ => None,
         },
-        3 => match map {
-            0x51..=0x5B => path_if(Kind::S4U2self, map),
+        Kind::S4U2self => match map {
+            0x51..=0x5B => path_if(kind, map),
             _ => None,
         },
-        4 => match map {
-            0xB3..=0xBF => path_if(Kind::S4U2proxy, map),
+        Kind::S4U2proxy => match map {
+            0xB3..=0xBF => path_if(kind, map),
             _ => None,
         },
-        _ => None,
     }
 }
 
@@ -134,6 +132,7 @@ fn embedded_in(bytes: &[u8], map: u16, bit: usize, span: Span) -> Result<Ticket,
 }
 
 // The kind that the first bytes pick; where they pick none, the request is refused.
+#[tactic(auto, using(definitions::proofs::Requests::path_no_kind, definitions::proofs::Requests::kind_read))]
 pub fn request_path(bytes: &[u8]) -> Option<Kind>
     ensures { result ≡ path_of (field_of request_layout bytes.now (map_of bytes.now) 0) (map_of bytes.now) }
 {
@@ -143,8 +142,9 @@ pub fn request_path(bytes: &[u8]) -> Option<Kind>
         map,
     };
     let mut at = 2;
-    let kind = form.take(bytes, 0, &mut at);
-    path_of(kind as u8, map)
+    let number = form.take(bytes, 0, &mut at);
+    let kind = Kind::try_from(number).ok()?;
+    path_of(kind, map)
 }
 
 // The request of the bytes, of the kind that they pick, or 60.

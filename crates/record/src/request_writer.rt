@@ -36,7 +36,7 @@ fn map_with(kind: u32, fields: u32) -> Option<u16>
     let kind = Kind::try_from(kind).ok()?;
     let fields = u8::try_from(fields).ok()?;
     let map = needed_bits(kind) | u16::from(fields);
-    path_of(u8::from(kind), map)?;
+    path_of(kind, map)?;
     Some(map)
 }
 

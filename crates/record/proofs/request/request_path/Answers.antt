@@ -3,5 +3,5 @@ use Rattle.definitions.specs.Requests.{request_layout}
 use Rattle.definitions.proofs.Fields.{offset-first}
 use Rattle.record.proofs.request.request_path.Goals as goal
 
-pub take-kind-requires-clause-start : goal.take-kind-requires-clause-start
-take-kind-requires-clause-start c = sym (offset-first request_layout c.args.bytes.now c.map_of-map.result)
+pub take-number-requires-clause-start : goal.take-number-requires-clause-start
+take-number-requires-clause-start c = sym (offset-first request_layout c.args.bytes.now c.map_of-map.result)
