@@ -10,10 +10,32 @@ use crate::ticket::blank_ticket;
 use crate::{map_of, present};
 use definitions::{Error, Field, Kind, Request, Span, Ticket};
 
-// The map bits that a request of each kind needs, and those that it may have (R4.2). There is no kind 0.
-const NEEDED: [u16; 5] = [0, 0x41, 0x91, 0x51, 0xB3];
+// The map bits that a request of a kind needs, and those that it may have (R4.2).
+#[derive(Clone, Copy)]
+struct Maps {
+    needed: u16,
+    allowed: u16,
+}
 
-const ALLOWED: [u16; 5] = [0, 0x4B, 0x9B, 0x5B, 0xBF];
+// Those of each kind, in the order of the kinds.
+const MAPS: [Maps; 4] = [
+    Maps {
+        needed: 0x41,
+        allowed: 0x4B,
+    }, // initial
+    Maps {
+        needed: 0x91,
+        allowed: 0x9B,
+    }, // direct
+    Maps {
+        needed: 0x51,
+        allowed: 0x5B,
+    }, // S4U2self
+    Maps {
+        needed: 0xB3,
+        allowed: 0xBF,
+    }, // S4U2proxy
+];
 
 // The fields of a request, by map bit (R4.1).
 pub(crate) const LAYOUT: [Field; 8] = [
@@ -31,7 +53,7 @@ pub(crate) const LAYOUT: [Field; 8] = [
 pub(crate) fn needed_bits(kind: Kind) -> u16
     ensures { result ≡ needed_bits (kind_number kind) }
 {
-    NEEDED[u8::from(kind) as usize]
+    MAPS[kind as usize].needed
 }
 
 // Whether a map has the bits that a kind needs, and none beyond those that it may have.
@@ -39,8 +61,8 @@ pub(crate) fn needed_bits(kind: Kind) -> u16
 fn map_fits(kind: Kind, map: u16) -> bool
     ensures { result ≡ map_fits (kind_number kind) map }
 {
-    let needed = needed_bits(kind);
-    needed & map == needed && ALLOWED[u8::from(kind) as usize] & map == map
+    let maps = MAPS[kind as usize];
+    maps.needed & map == maps.needed && maps.allowed & map == map
 }
 
 // A kind where the table has the map.

@@ -280,11 +280,9 @@ fn table(words: &[&str], name: &str) -> Result<Vec<u64>, String> {
 /// The optional fields of a request, from the maps of its kinds: kind 1 has options and till, kind 4 PAC
 /// options and till. The longest request is one of kind 4 with all of them.
 fn request_fields(side: &mut Side, crates: &Crates) -> Result<(), String> {
-    let (needed, allowed) =
-        (table(&crates.requests, "NEEDED")?, table(&crates.requests, "ALLOWED")?);
-    let (&[_, needed_1, _, _, needed_4], &[_, allowed_1, _, _, allowed_4]) =
-        (&needed[..], &allowed[..])
-    else {
+    // A row for each kind: what it needs, and what it allows.
+    let maps = table(&crates.requests, "MAPS")?;
+    let &[needed_1, allowed_1, _, _, _, _, needed_4, allowed_4] = &maps[..] else {
         return Err("crate: the maps of the kinds are not known".to_string());
     };
     let (optional_1, optional_4) = (allowed_1 & !needed_1, allowed_4 & !needed_4);
