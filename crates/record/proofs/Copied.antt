@@ -81,9 +81,9 @@ before-zeros (x ∷ xs) m zero = refl
 before-zeros (x ∷ xs) m (suc k) = before-zeros xs m k
 
 -- eight bytes, the first lowest
-word-eight : (xs : List ℕ) → from_le_bytes w64 xs ≡ pack_at byte_bits xs 0 8
+pub word_eight : (xs : List ℕ) → from_le_bytes w64 xs ≡ pack_at byte_bits xs 0 8
 unfolding pack_at
-word-eight xs = omega arith
+word_eight xs = omega arith
 
 -- so many bytes, read before zeros, are the word of their numbers
 pub word-copied : (s ys : List ℕ) (i n : ℕ) → n ≤ 8 → i + n ≤ length s → ys ≡ take (i + n - i) (drop i s)
@@ -93,7 +93,7 @@ word-copied s ys i n h l e =
     let g : length (take n (drop i s)) ≤ 0 + n = simp length-take (omega arith) in
     let z : drop {A = ℕ} n (0 ∷ 0 ∷ 0 ∷ 0 ∷ 0 ∷ 0 ∷ 0 ∷ 0 ∷ []) ≡ replicate (8 - n) 0 = drop-replicate n 8 0 in
     rw (f, z)
-    (word-eight (take n (drop i s) ++ replicate (8 - n) 0)
+    (word_eight (take n (drop i s) ++ replicate (8 - n) 0)
     ∙ pack-agree byte_bits (take n (drop i s) ++ replicate (8 - n) 0) (take n (drop i s)) 0 0 8 (λ k m. before-zeros (take n (drop i s)) (8 - n) (0 + k))
     ∙ sym (pack-rest byte_bits (take n (drop i s)) 0 n 8 g h)
     ∙ pack-agree byte_bits (take n (drop i s)) s 0 i n (λ k m. rw zero-add (get_or-take n (drop i s) k 0 m ∙ get_or-drop i s k 0)))

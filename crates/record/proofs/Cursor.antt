@@ -32,6 +32,8 @@ use Rattle.definitions.specs.declared.request.Kind.{Kind}
 use Rattle.record.specs.Drafts.{size_of}
 use Rattle.definitions.specs.RequestWriting.{RequestParts, map_of_parts, part_values, writable, request_of, request_written, request_output}
 use Rattle.std.specs.Prelude.{Option, Some, None, Ok, Err}
+use Rattle.std.specs.Bool.{then_some}
+use Rattle.std.specs.Option.{ok_or}
 use Rattle.std.specs.Result.{result_ok}
 use Rattle.definitions.proofs.Requests.{allowed-small, path_above, path_no_kind, kind_read}
 
@@ -236,6 +238,14 @@ pub none_told : {A : Type 0} (b : Bool) (y : A) → ◌≡◌ {A = Option A} Non
 none_told true y e = cc
 none_told false y e = refl
 
+pub ok_told : {A E : Type 0} (o : Option A) (e : E) (x : A) → ok_or o e ≡ Ok x → Some x ≡ o
+ok_told None e x h = cc
+ok_told (Some y) e x h = cc
+
+pub err_told : {A E : Type 0} (o : Option A) (e x : E) → ok_or o e ≡ Err x → (None ≡ o) × (x ≡ e)
+err_told None e x h = (refl, cc)
+err_told (Some y) e x h = cc
+
 -- ---- The map of a request that is written
 -- a number that is no kind
 pub map_no_kind : (k f : ℕ) → ◌≡◌ {A = Option Kind} None (result_ok (kind_of k)) → None ≡ map_with k f
@@ -252,11 +262,15 @@ map_above k f l =
 
 -- the map that the code finds is that of writable parts
 pub map-writable : (p : RequestParts) (m : ℕ) → Some m ≡ map_with p.kind p.fields → (fit : Bool) → fit ≡ parts_fit m p
-    → cond fit (Some m) None ≡ writable_map p
+    → then_some fit m ≡ writable_map p
 unfolding map_with writable
 map-writable p m e fit f =
     let found = some_told _ _ _ e in
-    rw (f, found.0, found.1)
+    rw (f, found.0, found.1) (by (parts_fit (map_of_parts p) p))
+  where
+    by : (b : Bool) → then_some b (map_of_parts p) ≡ cond b (Some (map_of_parts p)) None
+    by true = refl
+    by false = refl
 
 pub map-unwritable : (p : RequestParts) → ◌≡◌ {A = Option ℕ} None (map_with p.kind p.fields) → ◌≡◌ {A = Option ℕ} None (writable_map p)
 unfolding map_with writable

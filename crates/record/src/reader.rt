@@ -30,10 +30,10 @@ pub(crate) const LAYOUT: [Field; FIELDS] = [
 fn known_map(map: u16) -> bool
     ensures { result ≡ known_map map }
 {
-    match map {
-        0x0037 | 0x007F | 0x01FF | 0x0237 | 0x027F | 0x03FF | 0x047F | 0x067F => true,
-        _ => false,
-    }
+    matches!(
+        map,
+        0x0037 | 0x007F | 0x01FF | 0x0237 | 0x027F | 0x03FF | 0x047F | 0x067F
+    )
 }
 
 // Whether a trail has 1 to 8 accounts where the map has one, and else none.

@@ -195,8 +195,6 @@ pub fn read_rest(bytes: &[u8], kind: Kind) -> Result<Request, Error>
 pub fn read_request(bytes: &[u8]) -> Result<Request, Error>
     ensures { result ≡ read_request bytes.now }
 {
-    match request_path(bytes) {
-        Some(kind) => read_rest(bytes, kind),
-        None => Err(Error::KRB_ERR_GENERIC),
-    }
+    let kind = request_path(bytes).ok_or(Error::KRB_ERR_GENERIC)?;
+    read_rest(bytes, kind)
 }

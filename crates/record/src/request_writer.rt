@@ -89,11 +89,7 @@ fn writable_map(draft: Draft) -> Option<u16>
     ensures { result ≡ writable_map (drafted draft.entry) }
 {
     let map = map_with(draft.kind, draft.fields)?;
-    if draft_fits(map, draft) {
-        Some(map)
-    } else {
-        None
-    }
+    draft_fits(map, draft).then_some(map)
 }
 
 // The bytes of a draft with a map.

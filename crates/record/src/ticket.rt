@@ -5,7 +5,6 @@ ghost use Rattle.definitions.specs.Fields.{Bytes};
 ghost use Rattle.definitions.specs.Words.{pack_at};
 ghost use Rattle.definitions.specs.TicketRecords.{origin_map, tgt_of, evidence_of, blank_ticket};
 
-use crate::packing::pack_whole;
 use definitions::{Origin, Principal, TRAIL_LIMIT, Ticket, Window};
 
 // The map of an origin, without the barred mark.
@@ -46,11 +45,12 @@ pub fn evidence_of(origin: Origin) -> u16
 }
 
 // The places of a trail as one word, the first in its lowest byte.
+#[tactic(auto, using(crate::proofs::Copied::word_eight))]
 pub fn trail_word(trail: [Principal; TRAIL_LIMIT]) -> u64
     ensures exact { result ≡ pack_at byte_bits trail 0 trail_limit }
     ensures places { (trail_limit ≡ length trail) × Bytes trail }
 {
-    pack_whole(&trail, 0)
+    u64::from_le_bytes(trail)
 }
 
 // The ticket that stands where there is none.

@@ -6,8 +6,5 @@ use Rattle.record.proofs.request_writer.writable_map.Goals as goal
 pub returns-in_err-map : goal.returns-in_err-map
 returns-in_err-map c = c.from_residual.ensures ∙ map-unwritable (drafted c.args.draft) c.in_err-map.ensures
 
-pub returns-then-draft_fits : goal.returns-then-draft_fits
-returns-then-draft_fits c = map-writable (drafted c.args.draft) c.in_ok-map.map c.in_ok-map.ensures _ c.if-draft_fits.ensures
-
-pub returns-else-draft_fits : goal.returns-else-draft_fits
-returns-else-draft_fits c = map-writable (drafted c.args.draft) c.in_ok-map.map c.in_ok-map.ensures _ c.if-draft_fits.ensures
+pub returns : goal.returns
+returns c = c.then_some.ensures ∙ map-writable (drafted c.args.draft) c.in_ok-map.map c.in_ok-map.ensures _ c.draft_fits.ensures
