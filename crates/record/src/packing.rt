@@ -5,7 +5,7 @@ ghost use Rattle.definitions.specs.Words.{pack_at};
 ghost use Rattle.definitions.specs.Requests.{part_of};
 ghost use Rattle.definitions.specs.Names.{name_of};
 
-use definitions::{Name, Span, TWO_32};
+use definitions::{Name, Span};
 
 // So many bytes from a position on as a word, the first lowest.
 fn pack_some(bytes: &[u8], from: usize, count: usize) -> u64
@@ -18,15 +18,7 @@ fn pack_some(bytes: &[u8], from: usize, count: usize) -> u64
     u64::from_le_bytes(word)
 }
 
-// Eight bytes from a position on as a word, the first lowest; by halves, each of which is one load when it is compiled.
-pub(crate) fn pack_whole(bytes: &[u8], from: usize) -> u64
-    requires { from + 8 ≤ length bytes.now }
-    ensures { result ≡ pack_at byte_bits bytes.now from 8 }
-{
-    pack_some(bytes, from + 4, 4) * TWO_32 + pack_some(bytes, from, 4)
-}
-
-// The same, where bytes past the end count as 0. Of eight bytes that end with the last one those before the position are shifted out.
+// Eight bytes from a position on as a word, where bytes past the end count as 0. Of eight bytes that end with the last one those before the position are shifted out.
 pub(crate) fn pack(bytes: &[u8], from: usize) -> u64
     ensures { result ≡ pack_at byte_bits bytes.now from 8 }
 {
@@ -36,10 +28,10 @@ pub(crate) fn pack(bytes: &[u8], from: usize) -> u64
     }
     let rest = end - from;
     if 8 <= rest {
-        return pack_whole(bytes, from);
+        return pack_some(bytes, from, 8);
     }
     if 8 <= end {
-        return pack_whole(bytes, end - 8) >> (64 - 8 * rest);
+        return pack_some(bytes, end - 8, 8) >> (64 - 8 * rest);
     }
     pack_some(bytes, from, rest)
 }

@@ -25,11 +25,11 @@ pub returns-then-end-ge8 : goal.returns-then-end-ge8
 returns-then-end-ge8 c =
     let a = c.args in
     let s = a.bytes.now in
-    rw c.pack_whole-then-end-ge8.ensures
+    rw c.pack_some-then-end-ge8.ensures.exact
     (tail s (λ k. c.shared_slice_known-1.given k) a.from (length s - a.from) refl (omega arith) (omega arith) (omega arith))
 
 pub returns : goal.returns
 returns c =
     let a = c.args in
     let s = a.bytes.now in
-    c.pack_some.ensures.exact ∙ pack-rest byte_bits s a.from (length s - a.from) 8 (omega arith) (omega arith)
+    c.pack_some-2.ensures.exact ∙ pack-rest byte_bits s a.from (length s - a.from) 8 (omega arith) (omega arith)
