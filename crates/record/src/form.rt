@@ -19,7 +19,7 @@ pub struct Form<'a> {
 
 impl<'a> Form<'a> {
     // Takes the field of a map bit at the cursor: the number in its head, 0 where it does not stand.
-    // Form: the bit is a number with a `requires` here and below, since each caller writes it out, and a type would be made of it there.
+    // Form: the bit is a number with a `requires`, here and below: one form serves two tables of fields, and an enum of each would be the same number again, made at each call.
     pub fn take(self, bytes: &[u8], bit: usize, at: &mut usize) -> u32
         requires row { bit < length self.layout.now }
         requires start { at.old ≡ offset_of self.layout.now bytes.now self.map bit }
@@ -69,6 +69,7 @@ impl<'a> Form<'a> {
     }
 
     // Puts the field of a map bit at the cursor, if it stands: the number in its head, and the bytes behind it.
+    // Form: output and cursor stand apart and in no struct, since the contract speaks of the output before and after, which a struct would have lent.
     pub fn put(self, out: &mut [u8], at: &mut usize, bit: usize, number: u32, behind: &[u8])
         requires row { bit < length self.layout.now }
         requires room { at.old + field_size self.layout.now self.map bit (length behind.now) ≤ length out.old }

@@ -26,6 +26,7 @@ pub use ticket::{blank_ticket, evidence_of, tgt_of, trail_word};
 pub use writer::write_ticket;
 
 // The byte at a position, 0 past the end.
+// Form: 0 and no Option, since reading is total, and one test of the length behind the last field decides (R3.5, R4.3).
 pub fn byte(bytes: &[u8], at: usize) -> u8
     ensures { result ≡ get_or bytes.now at 0 }
 {
@@ -55,6 +56,7 @@ fn map_of(bytes: &[u8]) -> u16
 }
 
 // The big-endian number of some bytes, 0 where one of them is missing.
+// Form: 0 and no Option, for the reason of `byte`.
 fn number(bytes: &[u8], at: usize, width: usize) -> u32
     requires { (at ≤ cursor_most 16) × (width ≤ 4) }
     ensures { Numbered bytes.now at width result }

@@ -18,7 +18,8 @@ fn pack_some(bytes: &[u8], from: usize, count: usize) -> u64
     u64::from_le_bytes(word)
 }
 
-// Eight bytes from a position on as a word, where bytes past the end count as 0. Of eight bytes that end with the last one those before the position are shifted out.
+// Eight bytes from a position on as a word, where bytes past the end count as 0. Of eight bytes that end with the last one those before the
+// position are shifted out.
 pub(crate) fn pack(bytes: &[u8], from: usize) -> u64
     ensures { result ≡ pack_at byte_bits bytes.now from 8 }
 {

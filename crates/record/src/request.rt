@@ -142,6 +142,7 @@ fn parts_of(bytes: &[u8], map: u16) -> Option<Parts>
 }
 
 // The ticket of a part of the request, a blank one where the map has none, or 60.
+// Form: the bit is a number with a `requires`, as in the methods of `Form`, and for their reason.
 fn embedded_in(bytes: &[u8], map: u16, bit: usize, span: Span) -> Result<Ticket, Error>
     requires { (bit < 8) × (span.at + span.len ≤ length bytes.now) }
     ensures { result ≡ embedded_in bytes.now map bit span }

@@ -41,6 +41,7 @@ fn map_with(kind: u32, fields: u32) -> Option<u16>
 }
 
 // Whether a number, or a length, has room in the head of its field, or is 0 where the field does not stand.
+// Form: the bit is a number with a `requires`, here and in `record_fits`, as in the methods of `Form`, and for their reason.
 #[tactic(auto, unfolding(definitions::specs::RequestWriting::number_fits))]
 fn number_fits(map: u16, bit: usize, room: u64, number: u64) -> bool
     requires { (bit < length request_layout) × (room ≡ 256 ^ (field_at request_layout bit).head) }

@@ -21,6 +21,7 @@ pub(crate) fn origin_map(origin: Origin) -> u16
 }
 
 // The number of the TGT that a ticket rests on, 0 of an initial ticket.
+// Form: 0 and no Option, here and of the evidence, since a back number that the origin does not have is 0 (R7.7).
 pub fn tgt_of(origin: Origin) -> u16
     ensures { result ≡ tgt_of origin }
 {

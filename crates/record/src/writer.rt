@@ -48,6 +48,7 @@ fn well_formed(t: Ticket, map: u16) -> bool
 }
 
 // Puts a number at the cursor, big-endian, in so many bytes.
+// Form: output and cursor stand apart and in no struct, here and in `copy`, since the contracts speak of the output before and after, which a struct would have lent.
 pub(crate) fn put(out: &mut [u8], at: &mut usize, width: usize, number: u32)
     requires { (at.old + width ≤ length out.old) × (width ≤ 4) }
     ensures put { Wrote out.old at.old (big_endian width number) out.new at.new }
