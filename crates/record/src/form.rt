@@ -10,9 +10,9 @@ use definitions::{Field, Span};
 
 // The fields by map bit, each with few bytes, and the map.
 #[derive(Clone, Copy)]
-pub struct Form<'a> {
-    pub layout: &'a [Field],
-    pub map: u16,
+pub(crate) struct Form<'a> {
+    pub(crate) layout: &'a [Field],
+    pub(crate) map: u16,
     ghost few: { length layout.now ≤ 16 },
     ghost small: { all_small layout.now ≡ true },
 }
@@ -20,7 +20,7 @@ pub struct Form<'a> {
 impl<'a> Form<'a> {
     // Takes the field of a map bit at the cursor: the number in its head, 0 where it does not stand.
     // Form: the bit is a number with a `requires`, here and below: one form serves two tables of fields, and an enum of each would be the same number again, made at each call.
-    pub fn take(self, bytes: &[u8], bit: usize, at: &mut usize) -> u32
+    pub(crate) fn take(self, bytes: &[u8], bit: usize, at: &mut usize) -> u32
         requires row { bit < length self.layout.now }
         requires start { at.old ≡ offset_of self.layout.now bytes.now self.map bit }
         requires bounded { at.old ≤ cursor_most bit }
@@ -36,7 +36,7 @@ impl<'a> Form<'a> {
     }
 
     // Takes it, and tells where the bytes lie that it counts behind its head.
-    pub fn take_counted(self, bytes: &[u8], bit: usize, at: &mut usize) -> Span
+    pub(crate) fn take_counted(self, bytes: &[u8], bit: usize, at: &mut usize) -> Span
         requires row { bit < length self.layout.now }
         requires start { at.old ≡ offset_of self.layout.now bytes.now self.map bit }
         requires bounded { at.old ≤ cursor_most bit }
@@ -55,7 +55,7 @@ impl<'a> Form<'a> {
     }
 
     // The bytes of the field of a map bit that counts so many behind its head, 0 where it does not stand.
-    pub fn size(self, bit: usize, many: usize) -> usize
+    pub(crate) fn size(self, bit: usize, many: usize) -> usize
         requires row { bit < length self.layout.now }
         requires few { many < 256 }
         ensures exact { result ≡ field_size self.entry.layout.now self.entry.map bit many }
@@ -70,7 +70,7 @@ impl<'a> Form<'a> {
 
     // Puts the field of a map bit at the cursor, if it stands: the number in its head, and the bytes behind it.
     // Form: output and cursor stand apart and in no struct, since the contract speaks of the output before and after, which a struct would have lent.
-    pub fn put(self, out: &mut [u8], at: &mut usize, bit: usize, number: u32, behind: &[u8])
+    pub(crate) fn put(self, out: &mut [u8], at: &mut usize, bit: usize, number: u32, behind: &[u8])
         requires row { bit < length self.layout.now }
         requires room { at.old + field_size self.layout.now self.map bit (length behind.now) ≤ length out.old }
         ensures put { Wrote out.old at.old (field_bytes self.entry.layout.now self.entry.map bit (record { number = number; counted = behind.now })) out.new at.new }
