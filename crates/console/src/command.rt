@@ -9,7 +9,8 @@ use std::str;
 // The length of the longest name that a request has room for.
 pub const LONGEST_NAME: usize = 255;
 
-// The option of a hop.
+// The option of a hop, CNAME-IN-ADDL-TKT (R4.3).
+// Form: `morning` has it too, since the crates below ask for the option's bit and export no number for it.
 const CNAME_IN_ADDL_TKT: u32 = 0x00020000;
 
 #[derive(Drop)]
@@ -44,10 +45,10 @@ impl<'a> Command<'a> {
             b"descent" => Ok(Command::Descent(number(only(arguments)?)?)),
             b"total" => Ok(Command::Total.alone(arguments)?),
             b"ledger" => Ok(Command::Ledger.alone(arguments)?),
-            b"initial" => Ok(Command::Form(Form::initial(arguments)?)),
-            b"direct" => Ok(Command::Form(Form::with_tgt(Kind::Direct, arguments)?)),
-            b"self" => Ok(Command::Form(Form::with_tgt(Kind::S4U2self, arguments)?)),
-            b"proxy" => Ok(Command::Form(Form::proxy(arguments)?)),
+            b"initial" => Ok(Command::Form(Form::parse(Kind::Initial, arguments)?)),
+            b"direct" => Ok(Command::Form(Form::parse(Kind::Direct, arguments)?)),
+            b"self" => Ok(Command::Form(Form::parse(Kind::S4U2self, arguments)?)),
+            b"proxy" => Ok(Command::Form(Form::parse(Kind::S4U2proxy, arguments)?)),
             _ => Err(Wrong::Command.into()),
         }
     }
@@ -123,53 +124,35 @@ pub struct Form<'a> {
 }
 
 impl<'a> Form<'a> {
-    fn initial(arguments: &[&'a [u8]]) -> Result<Self, Wrong> {
-        match arguments {
-            [clock, user, optional @ ..] if optional.len() <= 2 => Ok(Form {
-                kind: Kind::Initial,
-                clock: number(clock)?,
-                tgt: None,
-                evidence: None,
-                options: optional_number(optional, 0)?,
-                pac_options: None,
-                till: optional_number(optional, 1)?,
-                name: short(user)?,
-            }),
-            _ => Err(Wrong::Words),
+    // A request of a kind. Behind the name stand words that need not be there: a hop's PAC options are between its options and its till.
+    fn parse(kind: Kind, arguments: &[&'a [u8]]) -> Result<Self, Wrong> {
+        let (clock, tgt, evidence, name, rest) = match (kind, arguments) {
+            (Kind::Initial, [clock, user, rest @ ..]) => (clock, None, None, user, rest),
+            (Kind::Direct | Kind::S4U2self, [clock, tgt, name, rest @ ..]) => {
+                (clock, Some(tgt), None, name, rest)
+            }
+            (Kind::S4U2proxy, [clock, tgt, evidence, service, rest @ ..]) => {
+                (clock, Some(tgt), Some(evidence), service, rest)
+            }
+            _ => return Err(Wrong::Words),
+        };
+        let (most, usual, pac_options, till) = match kind {
+            Kind::S4U2proxy => (3, Some(CNAME_IN_ADDL_TKT), rest.get(1), rest.get(2)),
+            _ => (2, None, None, rest.get(1)),
+        };
+        if rest.len() > most {
+            return Err(Wrong::Words);
         }
-    }
-
-    // A request that presents its TGT alone.
-    fn with_tgt(kind: Kind, arguments: &[&'a [u8]]) -> Result<Self, Wrong> {
-        match arguments {
-            [clock, tgt, name, optional @ ..] if optional.len() <= 2 => Ok(Form {
-                kind,
-                clock: number(clock)?,
-                tgt: Some(number(tgt)?),
-                evidence: None,
-                options: optional_number(optional, 0)?,
-                pac_options: None,
-                till: optional_number(optional, 1)?,
-                name: short(name)?,
-            }),
-            _ => Err(Wrong::Words),
-        }
-    }
-
-    fn proxy(arguments: &[&'a [u8]]) -> Result<Self, Wrong> {
-        match arguments {
-            [clock, tgt, evidence, service, optional @ ..] if optional.len() <= 3 => Ok(Form {
-                kind: Kind::S4U2proxy,
-                clock: number(clock)?,
-                tgt: Some(number(tgt)?),
-                evidence: Some(number(evidence)?),
-                options: optional_number(optional, 0)?.or(Some(CNAME_IN_ADDL_TKT)),
-                pac_options: optional_number(optional, 1)?,
-                till: optional_number(optional, 2)?,
-                name: short(service)?,
-            }),
-            _ => Err(Wrong::Words),
-        }
+        Ok(Form {
+            kind,
+            clock: number(clock)?,
+            tgt: optional(tgt)?,
+            evidence: optional(evidence)?,
+            options: optional(rest.first())?.or(usual),
+            pac_options: optional(pac_options)?,
+            till: optional(till)?,
+            name: short(name)?,
+        })
     }
 
     // The map bits of the options that were given.
@@ -190,20 +173,29 @@ fn only<'a>(arguments: &[&'a [u8]]) -> Result<&'a [u8], Wrong> {
 
 // The number that a word is.
 fn number<T: TryFrom<u64, Error = TryFromIntError>>(word: &[u8]) -> Result<T, Wrong> {
-    let text = str::from_utf8(word)?;
+    whole(word)
+        .and_then(|number| T::try_from(number).ok())
+        .ok_or(Wrong::Number)
+}
+
+// The number that a word is, of any size that there is.
+fn whole(word: &[u8]) -> Option<u64> {
+    let text = str::from_utf8(word).ok()?;
     let (digits, radix) = match text.strip_prefix("0x") {
         Some(digits) => (digits, 16),
         None => (text, 10),
     };
     if digits.starts_with('+') {
-        return Err(Wrong::Number);
+        return None;
     }
-    Ok(T::try_from(u64::from_str_radix(digits, radix)?)?)
+    u64::from_str_radix(digits, radix).ok()
 }
 
 // The number of a word that need not be there.
-fn optional_number(words: &[&[u8]], index: usize) -> Result<Option<u32>, Wrong> {
-    words.get(index).map(|word| number(word)).transpose()
+fn optional<T: TryFrom<u64, Error = TryFromIntError>>(
+    word: Option<&&[u8]>,
+) -> Result<Option<T>, Wrong> {
+    word.map(|word| number(word)).transpose()
 }
 
 // A name that a request has room for.

@@ -3,9 +3,7 @@ use crate::command::LONGEST_NAME;
 use crate::lines::LONGEST_LINE;
 use definitions::Error;
 use hex::FromHexError;
-use std::alloc::{AllocError, AllocFailed};
-use std::num::{ParseIntError, TryFromIntError};
-use std::str::Utf8Error;
+use std::alloc::AllocError;
 
 // What is wrong with a line that is no call.
 #[derive(Debug, Drop, thiserror::Error)]
@@ -24,56 +22,18 @@ pub enum Wrong {
     Name,
 }
 
-impl From<Utf8Error> for Wrong {
-    fn from(_error: Utf8Error) -> Self {
-        Wrong::Number
-    }
-}
-
-impl From<ParseIntError> for Wrong {
-    fn from(_error: ParseIntError) -> Self {
-        Wrong::Number
-    }
-}
-
-impl From<TryFromIntError> for Wrong {
-    fn from(_error: TryFromIntError) -> Self {
-        Wrong::Number
-    }
-}
-
-// A line that is no call, a call that the service refuses, or no memory for either.
-#[derive(Drop)]
+// A line that is no call, a call that the service refuses, or no memory for either. A refusal is told as its answer, the number.
+#[derive(Debug, Drop, thiserror::Error)]
 pub enum Failure {
-    Wrong(Wrong),
-    Refused(Error),
-    Memory(AllocError),
+    #[error(transparent)]
+    Wrong(#[from] Wrong),
+    #[error("{} -", u32::from(*.0))]
+    Refused(#[from] Error),
+    #[error(transparent)]
+    Memory(#[from(alloc)] AllocError),
 }
 
-impl From<Wrong> for Failure {
-    fn from(wrong: Wrong) -> Self {
-        Failure::Wrong(wrong)
-    }
-}
-
-impl From<Error> for Failure {
-    fn from(error: Error) -> Self {
-        Failure::Refused(error)
-    }
-}
-
-impl From<AllocError> for Failure {
-    fn from(error: AllocError) -> Self {
-        Failure::Memory(error)
-    }
-}
-
-impl<T: Drop> From<AllocFailed<T>> for Failure {
-    fn from(error: AllocFailed<T>) -> Self {
-        Failure::Memory(AllocError::from(error))
-    }
-}
-
+// Form: by hand and no `#[from]`, since a word that is no bytes and one that there is no memory for are two failures.
 impl From<FromHexError> for Failure {
     fn from(error: FromHexError) -> Self {
         match error {

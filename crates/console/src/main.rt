@@ -34,8 +34,8 @@ mod value;
 fn answer(rt: &impl Print, service: &mut Service, line: &[u8], number: u64) -> io::Result<()> {
     match service.call(line) {
         Ok(value) => println!(rt; "0 {value}"),
-        Err(Failure::Refused(error)) => println!(rt; "{} -", u32::from(error)),
         Err(Failure::Wrong(wrong)) => println!(rt; "? {number}: {wrong}"),
+        Err(refused @ Failure::Refused(_)) => println!(rt; "{refused}"),
         Err(Failure::Memory(error)) => Err(io::Error::from(error)),
     }
 }

@@ -14,6 +14,7 @@ const REQUEST_ROOM: usize = 4096;
 // Room for a request's output.
 const OUTPUT_ROOM: usize = 64;
 
+// Form: `morning` has one of its own, since a program exports nothing, and each makes other calls and tells other failures.
 #[derive(Drop)]
 pub struct Service {
     alloc: Global,
@@ -71,6 +72,7 @@ impl Service {
         Ok(Value::Nothing)
     }
 
+    // Form: a number that is compared and no Option, since 64 is what R2.11 answers of a name that no account has.
     fn find(&self, name: &[u8]) -> Result<Value, Failure> {
         let number = rules::find_name(&self.accounts, name);
         if number < ACCOUNT_LIMIT {
@@ -82,16 +84,17 @@ impl Service {
 
     // Sends a request, with an output of so many bytes.
     fn request(&mut self, bytes: &[u8], clock: u32, room: usize) -> Result<Value, Failure> {
-        let mut output = vec![in self.alloc; 0; room]?;
-        let granted = ledger::request(
-            &mut self.accounts,
-            &mut self.ledger,
-            bytes,
-            clock,
-            &mut output,
-        )?;
-        output.truncate(granted.length);
-        Ok(Value::Record(hex::encode(self.alloc, &output)?))
+        let record = filled(self.alloc, room, |output| {
+            let granted = ledger::request(
+                &mut self.accounts,
+                &mut self.ledger,
+                bytes,
+                clock,
+                output,
+            )?;
+            Ok(granted.length)
+        })?;
+        Ok(Value::Record(hex::encode(self.alloc, &record)?))
     }
 
     // The records of the tickets that are held.
@@ -107,10 +110,11 @@ impl Service {
 
     // The record of a ticket.
     fn record(&self, ticket: Ticket) -> Result<Vec<u8>, Failure> {
-        let mut bytes = vec![in self.alloc; 0; LONGEST_RECORD]?;
-        let length = record::write_ticket(ticket, &mut bytes)?;
-        bytes.truncate(length);
-        Ok(bytes)
+        filled(
+            self.alloc,
+            LONGEST_RECORD,
+            |output| record::write_ticket(ticket, output),
+        )
     }
 
     // The record of the ticket of a number, also of one that is not held; no bytes where no ticket is presented.
@@ -148,9 +152,24 @@ impl Service {
             service,
             fields: form.fields(),
         };
-        let mut bytes = vec![in self.alloc; 0; REQUEST_ROOM]?;
-        let length = record::write_request(draft, &mut bytes)?;
-        bytes.truncate(length);
-        Ok(bytes)
+        filled(
+            self.alloc,
+            REQUEST_ROOM,
+            |output| record::write_request(draft, output),
+        )
     }
+}
+
+// The bytes that are written into an output of so many bytes.
+fn filled<F: FnOnce(&mut [u8]) -> Result<usize, Error>>(
+    alloc: Global,
+    room: usize,
+    write: F,
+) -> Result<Vec<u8>, Failure>
+    requires { F.IsAlwaysCallable write }
+{
+    let mut bytes = vec![in alloc; 0; room]?;
+    let length = write(&mut bytes)?;
+    bytes.truncate(length);
+    Ok(bytes)
 }
