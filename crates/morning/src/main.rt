@@ -7,12 +7,13 @@ use definitions::{ACCOUNTS_SIZE, Error, Kind, LEDGER_SIZE, LONGEST_RECORD, Setti
 use ledger::LedgerWords;
 use record::Draft;
 use rules::AccountWords;
-use std::alloc::Global;
+use std::alloc::{AllocError, Global};
 
 // The bytes that the longest request takes, with a record or a name of 255 bytes in each of its four fields (R4.1).
 const LONGEST_REQUEST: usize = 1039;
 
 // The option of a request that its evidence names the client, CNAME-IN-ADDL-TKT (R4.3).
+// Form: the console has it too, since the crates below ask for the option's bit and export no number for it.
 const CNAME_IN_ADDL_TKT: u32 = 0x0002_0000;
 
 // The mask of the optional fields of a request whose options stand (R4.8).
@@ -67,19 +68,27 @@ fn refused(error: Error) -> anyhow::Error {
     anyhow!("refused with {}", u32::from(error))
 }
 
-// The bytes of a request.
-fn written(alloc: Global, draft: Draft) -> Result<Vec<u8>> {
-    let mut bytes = vec![in alloc; 0; LONGEST_REQUEST]?;
-    let length = record::write_request(draft, &mut bytes).map_err(refused)?;
-    bytes.truncate(length);
-    Ok(bytes)
+// The bytes that are written into an output of so many bytes, or why none are; an error where there is no memory.
+fn filled<F: FnOnce(&mut [u8]) -> Result<usize, Error>>(
+    alloc: Global,
+    room: usize,
+    write: F,
+) -> Result<Result<Vec<u8>, Error>, AllocError>
+    requires { F.IsAlwaysCallable write }
+{
+    let mut bytes = vec![in alloc; 0; room]?;
+    Ok(write(&mut bytes).map(|length| {
+        bytes.truncate(length);
+        bytes
+    }))
 }
 
 // The service of the morning: the words of its accounts and of its ledger.
+// Form: the console has one of its own, since a program exports nothing, and each makes other calls and tells other failures.
 #[derive(Drop)]
 struct Service {
     accounts: AccountWords,
-    tickets: LedgerWords,
+    ledger: LedgerWords,
 }
 
 impl Service {
@@ -87,9 +96,9 @@ impl Service {
     fn new() -> Result<Self> {
         let mut service = Service {
             accounts: [0; ACCOUNTS_SIZE],
-            tickets: [0; LEDGER_SIZE],
+            ledger: [0; LEDGER_SIZE],
         };
-        ledger::fresh(&mut service.accounts, &mut service.tickets);
+        ledger::fresh(&mut service.accounts, &mut service.ledger);
         service.edit(0, b"tech", 0, 0)?;
         service.edit(1, b"web", 12, 0x4)?;
         service.edit(2, b"store", 8, 0)?;
@@ -115,18 +124,24 @@ impl Service {
         draft: Draft,
         clock: u32,
     ) -> Result<Option<Vec<u8>>> {
-        let request = written(alloc, draft)?;
-        let mut record = vec![in alloc; 0; LONGEST_RECORD]?;
-        let answer = ledger::request(
-            &mut self.accounts,
-            &mut self.tickets,
-            &request,
-            clock,
-            &mut record,
-        );
+        let request = filled(
+            alloc,
+            LONGEST_REQUEST,
+            |output| record::write_request(draft, output),
+        )?
+        .map_err(refused)?;
+        let answer = filled(alloc, LONGEST_RECORD, |output| {
+            let granted = ledger::request(
+                &mut self.accounts,
+                &mut self.ledger,
+                &request,
+                clock,
+                output,
+            )?;
+            Ok(granted.length)
+        })?;
         match answer {
-            Ok(granted) => {
-                record.truncate(granted.length);
+            Ok(record) => {
                 println!(rt; "{} 0 {}", draft.kind, hex::encode(alloc, &record)?)?;
                 Ok(Some(record))
             }
