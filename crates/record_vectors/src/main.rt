@@ -16,7 +16,7 @@
 
 ghost use Rattle.std.specs.Prelude.{◌<◌};
 
-use definitions::{Origin, Request, TRAIL_LIMIT, Ticket, Window};
+use definitions::{Error, Origin, Request, TRAIL_LIMIT, Ticket, Window};
 use std::alloc::{AllocError, Global};
 use std::io;
 use std::io::{BufRead, BufReader, Read};
@@ -58,14 +58,20 @@ impl Vector {
 
     fn answer(&self, alloc: Global) -> Result<String, AllocError> {
         match self {
-            Vector::Ticket(record) => ticket_answer(alloc, record),
+            Vector::Ticket(record) => read_answer(
+                alloc,
+                record::read_ticket(record),
+                ticket_fields,
+            ),
             Vector::Write(size, record) => {
                 let ticket = record::read_ticket(record).unwrap_or(record::blank_ticket());
                 written_answer(alloc, ticket, *size)
             }
             Vector::Value(size, ticket) => written_answer(alloc, *ticket, *size),
             Vector::Same(left, right) => format!(in alloc; "{}", u8::from(left == right)),
-            Vector::Request(bytes) => request_answer(alloc, bytes),
+            Vector::Request(bytes) => {
+                read_answer(alloc, record::read_request(bytes), request_fields)
+            }
         }
     }
 }
@@ -132,6 +138,7 @@ impl<'a> Digits<'a> {
             client,
             service,
             window: Window { start, end },
+            // Form: a match and no TryFrom, since a number is no origin without its back numbers, and every number above 2 is the last one.
             origin: match origin {
                 0 => Origin::Initial,
                 1 => Origin::Direct(tgt),
@@ -167,28 +174,39 @@ fn spelled(alloc: Global, bytes: &[u8]) -> Result<String, AllocError> {
     hex::encode(alloc, bytes)
 }
 
-// What the reader of tickets answers, and the fields of a ticket that it reads: back numbers that there are none of as 0, and of the trail its
-// accounts.
-fn ticket_answer(alloc: Global, record: &[u8]) -> Result<String, AllocError> {
-    let ticket = match record::read_ticket(record) {
-        Ok(ticket) => ticket,
-        Err(error) => return format!(in alloc; "{}", u32::from(error)),
-    };
-    let (origin, tgt, evidence) = match ticket.origin {
-        Origin::Initial => ("initial", 0, 0),
-        Origin::Direct(tgt) => ("direct", tgt, 0),
-        Origin::S4U2self(tgt) => ("self", tgt, 0),
-        Origin::Delegated(tgt, evidence) => ("delegated", tgt, evidence),
+// What a reader answers: the refusal's number, or 0 and the fields of what it reads.
+fn read_answer<T: Drop, F: FnOnce(Global, T) -> Result<String, AllocError>>(
+    alloc: Global,
+    reading: Result<T, Error>,
+    fields: F,
+) -> Result<String, AllocError>
+    requires { F.IsAlwaysCallable fields }
+{
+    match reading {
+        Ok(read) => format!(in alloc; "0 {}", fields(alloc, read)?),
+        Err(error) => format!(in alloc; "{}", u32::from(error)),
+    }
+}
+
+// The fields of a ticket: back numbers that there are none of as 0, and of the trail its accounts.
+fn ticket_fields(alloc: Global, ticket: Ticket) -> Result<String, AllocError> {
+    let origin = match ticket.origin {
+        Origin::Initial => "initial",
+        Origin::Direct(_) => "direct",
+        Origin::S4U2self(_) => "self",
+        Origin::Delegated(_, _) => "delegated",
     };
     let accounts = &ticket.trail[..usize::from(ticket.hops).min(TRAIL_LIMIT)];
     format!(in alloc;
-        "0 number={} flags={:08x} client={} service={} start={} end={} origin={origin} tgt={tgt} evidence={evidence} trail={} barred={}",
+        "number={} flags={:08x} client={} service={} start={} end={} origin={origin} tgt={} evidence={} trail={} barred={}",
         ticket.number,
         ticket.flags,
         ticket.client,
         ticket.service,
         ticket.window.start,
         ticket.window.end,
+        record::tgt_of(ticket.origin),
+        record::evidence_of(ticket.origin),
         spelled(alloc, accounts)?,
         u8::from(ticket.barred)
     )
@@ -209,9 +227,8 @@ fn written_answer(alloc: Global, ticket: Ticket, size: u8) -> Result<String, All
     }
 }
 
-// What the reader of requests answers, and the fields of a request that it reads: a ticket by its number, a name by where it starts and how many
-// bytes it has.
-fn request_answer(alloc: Global, bytes: &[u8]) -> Result<String, AllocError> {
+// The fields of a request: a ticket by its number, a name by where it starts and how many bytes it has.
+fn request_fields(alloc: Global, request: Request) -> Result<String, AllocError> {
     let Request {
         kind,
         options,
@@ -221,12 +238,9 @@ fn request_answer(alloc: Global, bytes: &[u8]) -> Result<String, AllocError> {
         evidence,
         user,
         service,
-    } = match record::read_request(bytes) {
-        Ok(request) => request,
-        Err(error) => return format!(in alloc; "{}", u32::from(error)),
-    };
+    } = request;
     format!(in alloc;
-        "0 kind={} options={options:08x} pac={pac_options:08x} till={till} tgt={} evidence={} user={}+{} service={}+{}",
+        "kind={} options={options:08x} pac={pac_options:08x} till={till} tgt={} evidence={} user={}+{} service={}+{}",
         u8::from(kind),
         tgt.number,
         evidence.number,
