@@ -20,7 +20,7 @@ const CNAME_IN_ADDL_TKT: u32 = 0x0002_0000;
 const OPTIONS_FIELD: u32 = 2;
 
 // A request of a kind, with nothing in it.
-fn blank<'a>(kind: Kind) -> Draft<'a> {
+fn blank(kind: Kind) -> Draft<'static> {
     Draft {
         kind: u32::from(u8::from(kind)),
         options: 0,
@@ -35,7 +35,7 @@ fn blank<'a>(kind: Kind) -> Draft<'a> {
 }
 
 // W1: an account asks for its initial ticket.
-fn initial<'a>(user: &'a [u8]) -> Draft<'a> {
+fn initial(user: &[u8]) -> Draft<'_> {
     Draft {
         user,
         ..blank(Kind::Initial)
@@ -83,18 +83,20 @@ fn filled<F: FnOnce(&mut [u8]) -> Result<usize, Error>>(
     }))
 }
 
-// The service of the morning: the words of its accounts and of its ledger.
+// The service of the morning: its allocator, and the words of its accounts and of its ledger.
 // Form: the console has one of its own, since a program exports nothing, and each makes other calls and tells other failures.
 #[derive(Drop)]
 struct Service {
+    alloc: Global,
     accounts: AccountWords,
     ledger: LedgerWords,
 }
 
 impl Service {
     // A fresh service with the three accounts of R11.1.
-    fn new() -> Result<Self> {
+    fn new(alloc: Global) -> Result<Self> {
         let mut service = Service {
+            alloc,
             accounts: [0; ACCOUNTS_SIZE],
             ledger: [0; LEDGER_SIZE],
         };
@@ -117,20 +119,14 @@ impl Service {
     }
 
     // Makes a request at a clock reading and prints its line; answers the record of the ticket, where one is granted.
-    fn ask(
-        &mut self,
-        rt: &impl Print,
-        alloc: Global,
-        draft: Draft,
-        clock: u32,
-    ) -> Result<Option<Vec<u8>>> {
+    fn ask(&mut self, rt: &impl Print, draft: Draft, clock: u32) -> Result<Option<Vec<u8>>> {
         let request = filled(
-            alloc,
+            self.alloc,
             LONGEST_REQUEST,
             |output| record::write_request(draft, output),
         )?
         .map_err(refused)?;
-        let answer = filled(alloc, LONGEST_RECORD, |output| {
+        let answer = filled(self.alloc, LONGEST_RECORD, |output| {
             let granted = ledger::request(
                 &mut self.accounts,
                 &mut self.ledger,
@@ -142,7 +138,7 @@ impl Service {
         })?;
         match answer {
             Ok(record) => {
-                println!(rt; "{} 0 {}", draft.kind, hex::encode(alloc, &record)?)?;
+                println!(rt; "{} 0 {}", draft.kind, hex::encode(self.alloc, &record)?)?;
                 Ok(Some(record))
             }
             Err(error) => {
@@ -154,16 +150,13 @@ impl Service {
 }
 
 fn main(rt: HostRuntime) -> Result<()> {
-    let alloc = rt.alloc();
-    let mut service = Service::new()?;
-    let tgt = service
-        .ask(&rt, alloc, initial(b"web"), 1000)?
-        .context("no TGT")?;
+    let mut service = Service::new(rt.alloc())?;
+    let tgt = service.ask(&rt, initial(b"web"), 1000)?.context("no TGT")?;
     let evidence = service
-        .ask(&rt, alloc, to_itself(&tgt, b"tech"), 1010)?
+        .ask(&rt, to_itself(&tgt, b"tech"), 1010)?
         .context("no evidence")?;
     let hop = to_service(&tgt, &evidence, b"store");
-    service.ask(&rt, alloc, hop, 1020)?;
-    service.ask(&rt, alloc, hop, 37000)?;
+    service.ask(&rt, hop, 1020)?;
+    service.ask(&rt, hop, 37000)?;
     Ok(())
 }
