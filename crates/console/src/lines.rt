@@ -27,9 +27,8 @@ impl<R: BufRead + Drop> Lines<R> {
         if start.read_until(b'\n', &mut self.line)? == 0 {
             return Ok(None);
         }
-        if self.line.last() == Some(&b'\n') {
-            self.line.pop();
-        } else if self.line.len() > LONGEST_LINE {
+        let end = self.line.pop_if(|byte| *byte == b'\n');
+        if end.is_none() && self.line.len() > LONGEST_LINE {
             self.input.skip_until(b'\n')?;
         }
         Ok(Some(self.line.as_slice()))

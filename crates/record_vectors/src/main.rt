@@ -273,9 +273,7 @@ fn main(rt: HostRuntime) -> io::Result<()> {
             .by_ref()
             .take(LONGEST_LINE as u64)
             .read_until(b'\n', &mut line)?;
-        if line.last() == Some(&b'\n') {
-            line.pop();
-        }
+        line.pop_if(|byte| *byte == b'\n');
         if line.is_empty() {
             break;
         }
