@@ -11,7 +11,7 @@ pub const LONGEST_NAME: usize = 255;
 
 // The option of a hop, CNAME-IN-ADDL-TKT (R4.3).
 // Form: `morning` has it too, since the crates below ask for the option's bit and export no number for it.
-const CNAME_IN_ADDL_TKT: u32 = 0x00020000;
+const CNAME_IN_ADDL_TKT: u32 = 0x0002_0000;
 
 #[derive(Drop)]
 pub enum Command<'a> {

@@ -14,7 +14,7 @@ const REQUEST_ROOM: usize = 4096;
 // Room for a request's output.
 const OUTPUT_ROOM: usize = 64;
 
-// Form: `morning` has one of its own, since a program exports nothing, and each makes other calls and tells other failures.
+// Form: `morning` has one of its own; a crate for what the two share, the words and a fresh start, would be no plainer.
 #[derive(Drop)]
 pub struct Service {
     alloc: Global,
@@ -161,6 +161,7 @@ impl Service {
 }
 
 // The bytes that are written into an output of so many bytes.
+// Form: `morning` has one too, that tells a refusal from a want of memory by its type; here both are a `Failure`.
 fn filled<F: FnOnce(&mut [u8]) -> Result<usize, Error>>(
     alloc: Global,
     room: usize,

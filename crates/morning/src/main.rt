@@ -69,6 +69,7 @@ fn refused(error: Error) -> anyhow::Error {
 }
 
 // The bytes that are written into an output of so many bytes, or why none are; an error where there is no memory.
+// Form: the console has one too, whose error is a `Failure`; here a refusal is a value, since a line is printed of it.
 fn filled<F: FnOnce(&mut [u8]) -> Result<usize, Error>>(
     alloc: Global,
     room: usize,
@@ -84,7 +85,7 @@ fn filled<F: FnOnce(&mut [u8]) -> Result<usize, Error>>(
 }
 
 // The service of the morning: its allocator, and the words of its accounts and of its ledger.
-// Form: the console has one of its own, since a program exports nothing, and each makes other calls and tells other failures.
+// Form: the console has one of its own; a crate for what the two share, the words and a fresh start, would be no plainer.
 #[derive(Drop)]
 struct Service {
     alloc: Global,
