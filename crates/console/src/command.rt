@@ -1,7 +1,7 @@
 // The calls that a line can make, and how they are read from its words.
 use crate::failure::{Failure, Wrong};
 use crate::lines::LONGEST_LINE;
-use definitions::{Kind, Settings};
+use definitions::{Edit, Kind, Settings};
 use std::alloc::Global;
 use std::num::TryFromIntError;
 use std::str;
@@ -38,7 +38,7 @@ impl<'a> Command<'a> {
         };
         match *command {
             b"fresh" => Ok(Command::Fresh.alone(arguments)?),
-            b"edit" => Ok(Command::Edit(Edit::parse(arguments)?)),
+            b"edit" => Ok(Command::Edit(edit(arguments)?)),
             b"find" => Ok(Command::Find(only(arguments)?)),
             b"request" => Ok(Command::Request(Request::parse(alloc, arguments)?)),
             b"clear" => Ok(Command::Clear(number(only(arguments)?)?)),
@@ -60,32 +60,6 @@ impl<'a> Command<'a> {
         } else {
             Err(Wrong::Words)
         }
-    }
-}
-
-// An account, the name that it is given, and what else an edit sets of it.
-#[derive(Clone, Copy)]
-pub struct Edit<'a> {
-    pub number: u32,
-    pub name: &'a [u8],
-    pub settings: Settings,
-}
-
-impl<'a> Edit<'a> {
-    fn parse(arguments: &[&'a [u8]]) -> Result<Self, Wrong> {
-        let &[account, name, flags, send, receive, lifetime] = arguments else {
-            return Err(Wrong::Words);
-        };
-        Ok(Edit {
-            number: number(account)?,
-            name,
-            settings: Settings {
-                flags: number(flags)?,
-                send: number(send)?,
-                receive: number(receive)?,
-                lifetime: number(lifetime)?,
-            },
-        })
     }
 }
 
@@ -161,6 +135,23 @@ impl<'a> Form<'a> {
             | u32::from(self.pac_options.is_some()) << 2
             | u32::from(self.till.is_some()) << 3
     }
+}
+
+// The edit of an account.
+fn edit<'a>(arguments: &[&'a [u8]]) -> Result<Edit<'a>, Wrong> {
+    let &[account, name, flags, send, receive, lifetime] = arguments else {
+        return Err(Wrong::Words);
+    };
+    Ok(Edit {
+        number: number(account)?,
+        name,
+        settings: Settings {
+            flags: number(flags)?,
+            send: number(send)?,
+            receive: number(receive)?,
+            lifetime: number(lifetime)?,
+        },
+    })
 }
 
 // The one argument of a call.

@@ -1,8 +1,10 @@
 // The service behind the console: its accounts and its ledger, and the calls that are made of it.
-use crate::command::{Command, Edit, Form};
+use crate::command::{Command, Form};
 use crate::failure::Failure;
 use crate::value::Value;
-use definitions::{ACCOUNT_LIMIT, ACCOUNTS_SIZE, Error, Kind, LEDGER_SIZE, LONGEST_RECORD, Ticket};
+use definitions::{
+    ACCOUNT_LIMIT, ACCOUNTS_SIZE, Edit, Error, Kind, LEDGER_SIZE, LONGEST_RECORD, Ticket,
+};
 use ledger::LedgerWords;
 use record::Draft;
 use rules::AccountWords;
@@ -68,7 +70,7 @@ impl Service {
     }
 
     fn edit(&mut self, edit: Edit<'_>) -> Result<Value, Failure> {
-        ledger::edit(&mut self.accounts, edit.number, edit.name, edit.settings)?;
+        ledger::edit(&mut self.accounts, edit)?;
         Ok(Value::Nothing)
     }
 

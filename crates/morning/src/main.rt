@@ -3,7 +3,7 @@
 #![tactic(auto)]
 
 use anyhow::{Context, Result, anyhow};
-use definitions::{ACCOUNTS_SIZE, Error, Kind, LEDGER_SIZE, LONGEST_RECORD, Settings};
+use definitions::{ACCOUNTS_SIZE, Edit, Error, Kind, LEDGER_SIZE, LONGEST_RECORD, Settings};
 use ledger::LedgerWords;
 use record::Draft;
 use rules::AccountWords;
@@ -116,7 +116,12 @@ impl Service {
             receive: 0,
             lifetime: 36000,
         };
-        ledger::edit(&mut self.accounts, number, name, settings).map_err(refused)
+        let edit = Edit {
+            number,
+            name,
+            settings,
+        };
+        ledger::edit(&mut self.accounts, edit).map_err(refused)
     }
 
     // Makes a request at a clock reading and prints its line; answers the record of the ticket, where one is granted.
