@@ -59,8 +59,8 @@ pub number-whole : (s : List ℕ) (i w x : ℕ) → x ≡ number_at s i w → x 
 number-whole s i w x e l = record { whole = λ h. e; single = λ h. e; counts = rw e; fits = l }
 
 -- the bytes behind a head are few
-pub units-few : (u x : ℕ) → u ≤ 4 → u * (x % 256) ≤ 1020
-units-few u x h =
+pub units_few : (u x : ℕ) → u ≤ 4 → u * (x % 256) ≤ 1020
+units_few u x h =
     let l : x % 256 ≤ 255 = omega arith in
     mul-le-mul {n₂ = 4} {m₂ = 255} h l
 
@@ -76,7 +76,7 @@ module _ (L : Layout) (s : List ℕ) (m k i : ℕ) (f : Field) (l : k < length L
         single = λ w. n.single (rw ef at w) ∙ rw (h, ef, ei);
         next = sym next;
         fits = rw ef n.fits;
-        bounded = omega (arith, units-few f.unit x hu);
+        bounded = omega (arith, units_few f.unit x hu);
       }
 
   pub taken-absent : has_bit m k ≡ false → Taken L s m k 0 i

@@ -20,6 +20,7 @@ pub(crate) struct Form<'a> {
 impl<'a> Form<'a> {
     // Takes the field of a map bit at the cursor: the number in its head, 0 where it does not stand.
     // Form: the bit is a number with a `requires`, here and below: one form serves two tables of fields, and an enum of each would be the same number again, made at each call.
+    #[tactic(auto, using(crate::proofs::Cursor::small_at, crate::proofs::Cursor::units_few))]
     pub(crate) fn take(self, bytes: &[u8], bit: usize, at: &mut usize) -> u32
         requires row { bit < length self.layout.now }
         requires start { at.old ≡ offset_of self.layout.now bytes.now self.map bit }
@@ -36,6 +37,7 @@ impl<'a> Form<'a> {
     }
 
     // Takes it, and tells where the bytes lie that it counts behind its head.
+    #[tactic(auto, using(crate::proofs::Cursor::small_at, crate::proofs::Cursor::units_few))]
     pub(crate) fn take_counted(self, bytes: &[u8], bit: usize, at: &mut usize) -> Span
         requires row { bit < length self.layout.now }
         requires start { at.old ≡ offset_of self.layout.now bytes.now self.map bit }
@@ -55,6 +57,7 @@ impl<'a> Form<'a> {
     }
 
     // The bytes of the field of a map bit that counts so many behind its head, 0 where it does not stand.
+    #[tactic(auto, using(crate::proofs::Cursor::small_at))]
     pub(crate) fn size(self, bit: usize, many: usize) -> usize
         requires row { bit < length self.layout.now }
         requires few { many < 256 }
@@ -70,6 +73,7 @@ impl<'a> Form<'a> {
 
     // Puts the field of a map bit at the cursor, if it stands: the number in its head, and the bytes behind it.
     // Form: output and cursor stand apart and in no struct, since the contract speaks of the output before and after, which a struct would have lent.
+    #[tactic(auto, using(crate::proofs::Cursor::small_at))]
     pub(crate) fn put(self, out: &mut [u8], at: &mut usize, bit: usize, number: u32, behind: &[u8])
         requires row { bit < length self.layout.now }
         requires room { at.old + field_size self.layout.now self.map bit (length behind.now) ≤ length out.old }

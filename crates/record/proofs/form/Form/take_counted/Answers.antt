@@ -1,6 +1,5 @@
 use Rattle.std.proofs.Common.{sym, arith}
 use Rattle.definitions.specs.Fields.{field_of}
-use Rattle.record.proofs.Cursor.{units-few, small_at}
 use Rattle.record.proofs.form.Form.take_counted.Goals as goal
 
 pub returns-then-not-present : goal.returns-then-not-present
@@ -14,11 +13,3 @@ returns-then-not-present c =
       next = t.next;
       bounded = t.bounded;
     }
-
-pub overflow_add-result : goal.overflow_add-result
-overflow_add-result c = let s = small_at c.args.self.layout.now c.args.self.small c.args.bit in omega arith
-
-pub overflow_mul-result : goal.overflow_mul-result
-overflow_mul-result c =
-    let s = small_at c.args.self.layout.now c.args.self.small c.args.bit in
-    omega (arith, units-few _ c.take-count.result s.1)
