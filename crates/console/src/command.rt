@@ -2,16 +2,13 @@
 use crate::failure::{Failure, Wrong};
 use crate::lines::LONGEST_LINE;
 use definitions::{Edit, Kind, Settings};
+use rules::CNAME_IN_ADDL_TKT;
 use std::alloc::Global;
 use std::num::TryFromIntError;
 use std::str;
 
 // The length of the longest name that a request has room for.
 pub const LONGEST_NAME: usize = 255;
-
-// The option of a hop, CNAME-IN-ADDL-TKT (R4.3).
-// Form: `morning` has it too, since the crates below ask for the option's bit and export no number for it.
-const CNAME_IN_ADDL_TKT: u32 = 0x0002_0000;
 
 #[derive(Drop)]
 pub enum Command<'a> {

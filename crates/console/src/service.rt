@@ -163,7 +163,7 @@ impl Service {
 }
 
 // The bytes that are written into an output of so many bytes.
-// Form: `morning` has one too, that tells a refusal from a want of memory by its type; here both are a `Failure`.
+// Form: `morning` has one too, that tells a refusal from a want of memory by its type; here both are a `Failure`. One for both would be a crate for three lines.
 fn filled<F: FnOnce(&mut [u8]) -> Result<usize, Error>>(
     alloc: Global,
     room: usize,

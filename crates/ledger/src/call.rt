@@ -54,7 +54,7 @@ fn decide_read(question: &Question<'_>, held: HeldTickets) -> Result<Ticket, Err
 }
 
 // What a request of the kind that its first bytes pick is answered: read once, and decided.
-// Form: six parameters, since each goes once into the `Question`, which is their struct, or before it.
+// Form: six parameters, since a struct of them would be the `Question` without its request, made for this one call.
 fn decide_request(
     accounts: &AccountWords,
     held: HeldTickets,

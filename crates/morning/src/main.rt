@@ -6,15 +6,11 @@ use anyhow::{Context, Result, anyhow};
 use definitions::{ACCOUNTS_SIZE, Edit, Error, Kind, LEDGER_SIZE, LONGEST_RECORD, Settings};
 use ledger::LedgerWords;
 use record::Draft;
-use rules::AccountWords;
+use rules::{AccountWords, CNAME_IN_ADDL_TKT};
 use std::alloc::{AllocError, Global};
 
 // The bytes that the longest request takes, with a record or a name of 255 bytes in each of its four fields (R4.1).
 const LONGEST_REQUEST: usize = 1039;
-
-// The option of a request that its evidence names the client, CNAME-IN-ADDL-TKT (R4.3).
-// Form: the console has it too, since the crates below ask for the option's bit and export no number for it.
-const CNAME_IN_ADDL_TKT: u32 = 0x0002_0000;
 
 // The mask of the optional fields of a request whose options stand (R4.8).
 const OPTIONS_FIELD: u32 = 2;
@@ -69,7 +65,7 @@ fn refused(error: Error) -> anyhow::Error {
 }
 
 // The bytes that are written into an output of so many bytes, or why none are; an error where there is no memory.
-// Form: the console has one too, whose error is a `Failure`; here a refusal is a value, since a line is printed of it.
+// Form: the console has one too, whose error is a `Failure`; here a refusal is a value, since a line is printed of it. One for both would be a crate for three lines.
 fn filled<F: FnOnce(&mut [u8]) -> Result<usize, Error>>(
     alloc: Global,
     room: usize,

@@ -73,6 +73,7 @@ fn path_if(kind: Kind, map: u16) -> Option<Kind>
 }
 
 // A kind where the map is of it. A range also holds maps that are not of the kind, so the table decides.
+// Form: a match over kind and ranges of maps and no table alone, since a rule of the project asks for it; which kind a request is of is decided here (D48).
 #[tactic(auto, using(definitions::proofs::Requests::path_table, definitions::proofs::Requests::path_below, definitions::proofs::Requests::path_above))]
 pub(crate) fn path_of(kind: Kind, map: u16) -> Option<Kind>
     ensures { result ≡ path_of (kind_number kind) map }
@@ -126,19 +127,15 @@ fn parts_of(bytes: &[u8], map: u16) -> Option<Parts>
     let evidence = form.take_counted(bytes, 5, &mut at);
     let user = form.take_counted(bytes, 6, &mut at);
     let service = form.take_counted(bytes, 7, &mut at);
-    if bytes.len() == at {
-        Some(Parts {
-            options,
-            pac_options,
-            till,
-            tgt,
-            evidence,
-            user,
-            service,
-        })
-    } else {
-        None
-    }
+    (bytes.len() == at).then_some(Parts {
+        options,
+        pac_options,
+        till,
+        tgt,
+        evidence,
+        user,
+        service,
+    })
 }
 
 // The ticket of a part of the request, a blank one where the map has none, or 60.

@@ -153,7 +153,7 @@ impl<'a> Digits<'a> {
 }
 
 // The value of a hexadecimal digit in lower case, 0 of another byte.
-// Form: a match by hand, since `to_digit` and the crate `hex` take capitals too.
+// Form: a match by hand, since any other byte counts as 0 in these lines, and `to_digit` and the crate `hex` take capitals and refuse the rest.
 fn digit_value(digit: u8) -> u8
     ensures { result < 16 }
 {

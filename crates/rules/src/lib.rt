@@ -20,6 +20,7 @@ pub use check::check_room;
 pub use edit::edit_account;
 pub use letters::words_match;
 pub use name::find_name;
+pub use options::CNAME_IN_ADDL_TKT;
 pub use question::Question;
 pub use record::{
     blank_ticket, evidence_of, read_rest, request_path, tgt_of, trail_word, write_ticket,

@@ -14,6 +14,9 @@ pub(crate) enum Bit {
     Forwardable = 30,
 }
 
+// The option that a request's evidence names the client.
+pub const CNAME_IN_ADDL_TKT: u32 = 1 << Bit::CnameInAddlTkt as u32;
+
 impl Bit {
     // Whether it stands in flags or options.
     pub(crate) fn is_in(self, bits: u32) -> bool

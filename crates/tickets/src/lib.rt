@@ -53,6 +53,7 @@ pub extern "C" fn tickets_version() -> u32
 
 // The numbers of a request: kind, options, PAC options, till, the TGT's number, the evidence's number, where the user's name lies and its
 // length, where the service's name lies and its length.
+// Form: an array of numbers and no struct, here and of an account and a ticket, since the C interface has it so; a truth value is 1 or 0 there.
 pub type RequestFields = [u64; 10];
 
 // The answer of what gives a number of 32 bits: no error and the number, or a refusal's number and 0.
@@ -258,7 +259,6 @@ pub extern "C" fn tickets_day_total(ledger: &LedgerWords) -> u64
 
 // ---- Reading a service.
 
-// Form: what is read is told in arrays of numbers, a truth value as 1 or 0, since the C interface has it so.
 // An account in numbers: whether it is set, its flags, the send set, the receive set, its lifetime, the length of its name.
 pub type AccountFields = [u64; 6];
 
