@@ -240,7 +240,7 @@ impl Place {
     }
 
     // Puts its four words.
-    // Form: one by one and no `copy_from_slice`, by which that clearing takes nine instructions more for each of the 256 places that it moves.
+    // Form: one by one and no `copy_from_slice`, by which that clearing takes 11,957, where 7,553 were to be met.
     pub(crate) fn put_row(self, words: &mut LedgerWords, row: &Row)
         ensures { words.new ≡ put_row words.old (place_start self.index) row.now }
     {

@@ -40,7 +40,7 @@ impl Question<'_> {
     }
 
     // Kind 3, for the user, to the TGT's client, Service 1.
-    // Form: not one function with `decide_direct`, though both go by the TGT alone: one for both has two callers and is not built into them, and kind 1 then took some 815 instructions, where 765 were to be met.
+    // Form: not one function with `decide_direct`, though both go by the TGT alone: each looks up, checks and gives what the other doesn't, and what both do are functions already.
     #[tactic(auto, using(crate::proofs::Stages::s4u2self_staged))]
     pub fn decide_s4u2self(&self, tgt_held: bool) -> Result<Ticket, Error>
         ensures { result ≡ decide_kind S4U2self (table_of self.now.accounts.now) self.now.bytes.now self.now.request.now tgt_held false self.now.moment }
