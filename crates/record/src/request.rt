@@ -73,7 +73,7 @@ fn path_if(kind: Kind, map: u16) -> Option<Kind>
 }
 
 // A kind where the map is of it. A range also holds maps that are not of the kind, so the table decides.
-// Form: a match over kind and ranges of maps and no table alone, since a rule of the project asks for it; which kind a request is of is decided here (D48).
+// Form: not the table alone, since a rule of the project asks for kind and ranges of maps to be matched (D48).
 #[tactic(auto, using(definitions::proofs::Requests::path_table, definitions::proofs::Requests::path_below, definitions::proofs::Requests::path_above))]
 pub(crate) fn path_of(kind: Kind, map: u16) -> Option<Kind>
     ensures { result ≡ path_of (kind_number kind) map }

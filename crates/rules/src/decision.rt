@@ -47,8 +47,8 @@ impl Question<'_> {
     {
         let tgt = self.tgt(tgt_held);
         check_tgt(self.moment.clock, &tgt)?;
-        let user = self.user();
         check_self(tgt.client)?;
+        let user = self.user();
         check_user(user.account)?;
         let window = self.window_of(tgt.client, &tgt);
         check_last(self.moment, window)?;
@@ -61,8 +61,8 @@ impl Question<'_> {
         ensures { result ≡ decide_kind S4U2proxy (table_of self.now.accounts.now) self.now.bytes.now self.now.request.now tgt_held evidence_held self.now.moment }
     {
         let tgt = self.tgt(tgt_held);
-        let evidence = self.evidence(evidence_held);
         check_tgt(self.moment.clock, &tgt)?;
+        let evidence = self.evidence(evidence_held);
         check_evidence(self.moment.clock, &evidence, tgt.ticket.client)?;
         let service2 = self.service();
         let hop = Hop {
