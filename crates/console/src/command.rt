@@ -8,10 +8,10 @@ use std::num::TryFromIntError;
 use std::str;
 
 // The length of the longest name that a request has room for.
-pub const LONGEST_NAME: usize = 255;
+pub(crate) const LONGEST_NAME: usize = 255;
 
 #[derive(Drop)]
-pub enum Command<'a> {
+pub(crate) enum Command<'a> {
     Fresh,
     Edit(Edit<'a>),
     Find(&'a [u8]),
@@ -25,7 +25,7 @@ pub enum Command<'a> {
 
 impl<'a> Command<'a> {
     // The call of a line.
-    pub fn parse(alloc: Global, line: &'a [u8]) -> Result<Self, Failure> {
+    pub(crate) fn parse(alloc: Global, line: &'a [u8]) -> Result<Self, Failure> {
         if line.len() > LONGEST_LINE {
             return Err(Wrong::Long.into());
         }
@@ -62,10 +62,10 @@ impl<'a> Command<'a> {
 
 // A request as it is sent, and the length of its output.
 #[derive(Drop)]
-pub struct Request {
-    pub clock: u32,
-    pub room: usize,
-    pub bytes: Vec<u8>,
+pub(crate) struct Request {
+    pub(crate) clock: u32,
+    pub(crate) room: usize,
+    pub(crate) bytes: Vec<u8>,
 }
 
 impl Request {
@@ -83,15 +83,15 @@ impl Request {
 
 // A request that the console writes: its tickets by their numbers, the options that were given, and the name of the user or of the service.
 #[derive(Clone, Copy)]
-pub struct Form<'a> {
-    pub kind: Kind,
-    pub clock: u32,
-    pub tgt: Option<u16>,
-    pub evidence: Option<u16>,
-    pub options: Option<u32>,
-    pub pac_options: Option<u32>,
-    pub till: Option<u32>,
-    pub name: &'a [u8],
+pub(crate) struct Form<'a> {
+    pub(crate) kind: Kind,
+    pub(crate) clock: u32,
+    pub(crate) tgt: Option<u16>,
+    pub(crate) evidence: Option<u16>,
+    pub(crate) options: Option<u32>,
+    pub(crate) pac_options: Option<u32>,
+    pub(crate) till: Option<u32>,
+    pub(crate) name: &'a [u8],
 }
 
 impl<'a> Form<'a> {
@@ -127,7 +127,7 @@ impl<'a> Form<'a> {
     }
 
     // The map bits of the options that were given.
-    pub fn fields(self) -> u32 {
+    pub(crate) fn fields(self) -> u32 {
         u32::from(self.options.is_some()) << 1
             | u32::from(self.pac_options.is_some()) << 2
             | u32::from(self.till.is_some()) << 3

@@ -7,7 +7,7 @@ use std::alloc::AllocError;
 
 // What is wrong with a line that is no call.
 #[derive(Debug, Drop, thiserror::Error)]
-pub enum Wrong {
+pub(crate) enum Wrong {
     #[error("line of more than {most} bytes", most = LONGEST_LINE)]
     Long,
     #[error("no such command")]
@@ -24,7 +24,7 @@ pub enum Wrong {
 
 // A line that is no call, a call that the service refuses, or no memory for either. A refusal is told as its answer, the number.
 #[derive(Debug, Drop, thiserror::Error)]
-pub enum Failure {
+pub(crate) enum Failure {
     #[error(transparent)]
     Wrong(#[from] Wrong),
     #[error("{} -", u32::from(*.0))]
@@ -33,7 +33,7 @@ pub enum Failure {
     Memory(#[from(alloc)] AllocError),
 }
 
-// Form: by hand and no `#[from]`, since a word that is no bytes and one that there is no memory for are two failures.
+// Form: by hand and no `#[from]`, since `hex` tells by one error what are two failures here, a word that is no bytes and no memory for it.
 impl From<FromHexError> for Failure {
     fn from(error: FromHexError) -> Self {
         match error {

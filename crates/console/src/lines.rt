@@ -4,16 +4,16 @@ use std::io;
 use std::io::{BufRead, Read};
 
 // The length of the longest line that is a call.
-pub const LONGEST_LINE: usize = 4095;
+pub(crate) const LONGEST_LINE: usize = 4095;
 
 #[derive(Drop)]
-pub struct Lines<R: BufRead + Drop> {
+pub(crate) struct Lines<R: BufRead + Drop> {
     input: R,
     line: Vec<u8>,
 }
 
 impl<R: BufRead + Drop> Lines<R> {
-    pub fn new(alloc: Global, input: R) -> Self {
+    pub(crate) fn new(alloc: Global, input: R) -> Self {
         Lines {
             input,
             line: Vec::new(alloc),
@@ -21,7 +21,7 @@ impl<R: BufRead + Drop> Lines<R> {
     }
 
     // The next line, without the byte that ends it; `None` where the input has ended.
-    pub fn next_line(&mut self) -> io::Result<Option<&[u8]>> {
+    pub(crate) fn next_line(&mut self) -> io::Result<Option<&[u8]>> {
         self.line.clear();
         let mut start = self.input.by_ref().take(LONGEST_LINE as u64 + 1);
         if start.read_until(b'\n', &mut self.line)? == 0 {

@@ -18,7 +18,7 @@ const OUTPUT_ROOM: usize = 64;
 
 // Form: `morning` has one of its own; a crate for what the two share, the words and a fresh start, would be no plainer.
 #[derive(Drop)]
-pub struct Service {
+pub(crate) struct Service {
     alloc: Global,
     accounts: AccountWords,
     ledger: LedgerWords,
@@ -26,7 +26,7 @@ pub struct Service {
 
 impl Service {
     // A fresh service.
-    pub fn new(alloc: Global) -> Self {
+    pub(crate) fn new(alloc: Global) -> Self {
         let mut accounts = [0; ACCOUNTS_SIZE];
         let mut ledger = [0; LEDGER_SIZE];
         ledger::fresh(&mut accounts, &mut ledger);
@@ -38,7 +38,7 @@ impl Service {
     }
 
     // Makes the call of a line.
-    pub fn call(&mut self, line: &[u8]) -> Result<Value, Failure> {
+    pub(crate) fn call(&mut self, line: &[u8]) -> Result<Value, Failure> {
         self.perform(Command::parse(self.alloc, line)?)
     }
 

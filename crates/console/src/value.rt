@@ -3,7 +3,7 @@ use std::fmt;
 
 // Records are written in hexadecimal.
 #[derive(Drop)]
-pub enum Value {
+pub(crate) enum Value {
     Nothing,
     Number(u64),
     Record(String),

@@ -27,9 +27,6 @@ pub const LAST_NUMBER: u64 = 65535;
 // The seconds by which a clock reading may be before the start of a presented ticket (R5.2).
 pub const CLOCK_SKEW: u64 = 300;
 
-// The last second that a clock reading or an end can name (R1.2).
-pub const LAST_SECOND: u32 = 4294967295;
-
 // What 4, 8, 16, 32, 40, 48, 56 and 60 bits count to.
 pub const TWO_4: u64 = 16;
 
@@ -61,8 +58,8 @@ pub const RECEIVE_WORD: usize = 5;
 
 pub const ACCOUNTS_SIZE: usize = 520;
 
-// The ledger's words: that of the stored count, that of the next number, where the numbers start, the bits of a number, how many stand in a word, where the places
-// start, the words of a place, those of them that hold start and end, the back numbers and the trail, and all words.
+// The ledger's words: that of the stored count, that of the next number, where the numbers start, the bits of a number, how many stand in a word,
+// where the places start, the words of a place, those of them that hold start and end, the back numbers and the trail, and all words.
 pub const COUNT_WORD: usize = 0;
 
 pub const NEXT_WORD: usize = 1;

@@ -54,7 +54,7 @@ fn decide_read(question: &Question<'_>, held: HeldTickets) -> Result<Ticket, Err
 }
 
 // What a request of the kind that its first bytes pick is answered: read once, and decided.
-// Form: six parameters, since a struct of them would be the `Question` without its request, made for this one call.
+// Form: six parameters, since a struct of them would be made for this one call; what is asked is a `Question` only when the request is read.
 fn decide_request(
     accounts: &AccountWords,
     held: HeldTickets,
@@ -90,9 +90,7 @@ pub fn request(
     ensures measured { IfOk result (λ grant. grant.length ≡ length (record_of grant.ticket)) }
     ensures bounded { IfOk result (λ grant. grant.length ≤ longest_record) }
 {
-    let Some(kind) = request_path(bytes) else {
-        return Err(Error::KRB_ERR_GENERIC);
-    };
+    let kind = request_path(bytes).ok_or(Error::KRB_ERR_GENERIC)?;
     let held = HeldTickets::of(ledger);
     let ticket = decide_request(accounts, held, bytes, clock, output.len(), kind)?;
     store_ticket(ledger, ticket);

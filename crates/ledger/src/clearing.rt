@@ -45,12 +45,11 @@ fn words_staying(held: HeldTickets, clock: u32) -> usize
 fn first_ended(held: HeldTickets, clock: u32) -> Option<usize>
     ensures { IsFirstGone held.entry.words.now clock held.entry.count result }
 {
-    let words = held.words;
     let from = NUMBERS_IN_WORD * words_staying(held, clock);
     (from..held.count).find(
         |i|
             requires { i.now < ticket_limit }
-        { !Place { index: *i }.stays(words, clock) },
+        { !Place { index: *i }.stays(held.words, clock) },
     )
 }
 
@@ -67,7 +66,7 @@ fn any_stays(words: &LedgerWords, k: NumberWord, clock: u32) -> bool
 }
 
 // How many of the full words of numbers there are up to the last at one of whose places a ticket stays.
-// Form: a loop and no `find` with `map_or`, as above.
+// Form: a loop and no `find` with `map_or`, which is no plainer: what holds of the words passed is the loop's invariant, and needs no proof.
 fn end_of_staying(held: HeldTickets, clock: u32) -> usize
     ensures bounded { result ≤ held.entry.count / numbers_in_word }
     ensures passed { AllGo held.entry.words.now clock (numbers_in_word * result) (numbers_in_word * (held.entry.count / numbers_in_word)) }

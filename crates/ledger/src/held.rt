@@ -5,16 +5,14 @@ ghost use Rattle.definitions.specs.LedgerWords.{ticket_at, count_held, next_numb
 ghost use Rattle.ledger.specs.Lookups.{first_held, held_at, moment_at};
 
 use crate::search::{lane_of, passed};
-use crate::words::{LedgerWords, NumberWord, Place, count_held, next_number};
-use definitions::{
-    LAST_NUMBER, Moment, NUMBERS_IN_WORD, NUMBERS_START, Origin, TICKET_LIMIT, TWO_16, Ticket,
-};
+use crate::words::{LedgerWords, NumberWord, Place, count_held, first_numbers, next_number};
+use definitions::{LAST_NUMBER, Moment, NUMBERS_IN_WORD, Origin, TICKET_LIMIT, TWO_16, Ticket};
 
 // The tickets held: the ledger's words, and how many tickets these hold.
 #[derive(Clone, Copy)]
 pub(crate) struct HeldTickets<'a> {
-    pub words: &'a LedgerWords,
-    pub count: usize,
+    pub(crate) words: &'a LedgerWords,
+    pub(crate) count: usize,
     ghost counted: { count ≡ count_held words.now },
 }
 
@@ -46,8 +44,7 @@ impl<'a> HeldTickets<'a> {
         ensures { option_map (λ place. ticket_at self.entry.words.now place.index) result ≡ first_held (tickets_of self.entry.words.now) number }
     {
         let last = self.count.saturating_sub(1) / NUMBERS_IN_WORD;
-        let words = self.words;
-        let numbers = &words[NUMBERS_START..NUMBERS_START + last];
+        let numbers = first_numbers(self.words, last);
         let near = passed::<16>(numbers, number);
         let next = near + passed::<4>(&numbers[near..], number);
         for k in next..self.count.div_ceil(NUMBERS_IN_WORD) {
@@ -80,6 +77,7 @@ impl<'a> HeldTickets<'a> {
     }
 
     // Whether a ticket is held: what stands at its number is the very same.
+    // Form: a match and no `is_some_and`, by which the proof was tried and did not close.
     pub(crate) fn holds(self, ticket: Ticket) -> bool
         ensures { result ≡ holds (tickets_of self.entry.words.now) ticket }
     {

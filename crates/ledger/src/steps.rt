@@ -6,7 +6,7 @@ ghost use Rattle.ledger.specs.Lookups.{given};
 
 use crate::held::HeldTickets;
 use crate::words::LedgerWords;
-use definitions::{Error, Origin, TWO_16};
+use definitions::{Error, Origin};
 
 // The number that one step back leads to: the evidence's of a delegated ticket, the TGT's of a direct or a self ticket.
 fn back_of(origin: Origin) -> Option<u16>
@@ -25,9 +25,7 @@ fn steps_from(held: HeldTickets, number: u16) -> Result<u32, Error>
     ensures exact { result ≡ descended (descent (tickets_of held.entry.words.now) number) }
     ensures bounded { IfOk result (λ steps. steps ≤ number) }
 {
-    let Some(origin) = held.origin(number) else {
-        return Err(Error::KRB_AP_ERR_MODIFIED);
-    };
+    let origin = held.origin(number).ok_or(Error::KRB_AP_ERR_MODIFIED)?;
     let Some(next) = back_of(origin) else {
         return Ok(0);
     };
@@ -42,9 +40,6 @@ fn steps_from(held: HeldTickets, number: u16) -> Result<u32, Error>
 pub fn descent(words: &LedgerWords, number: u32) -> Result<u32, Error>
     ensures { result ≡ descended (descent (tickets_of words.now) number) }
 {
-    if (number as u64) < TWO_16 {
-        steps_from(HeldTickets::of(words), number as u16)
-    } else {
-        Err(Error::KRB_AP_ERR_MODIFIED)
-    }
+    let number = u16::try_from(number).or(Err(Error::KRB_AP_ERR_MODIFIED))?;
+    steps_from(HeldTickets::of(words), number)
 }

@@ -238,14 +238,6 @@ pub none_told : {A : Type 0} (b : Bool) (y : A) → ◌≡◌ {A = Option A} Non
 none_told true y e = cc
 none_told false y e = refl
 
-pub ok_told : {A E : Type 0} (o : Option A) (e : E) (x : A) → ok_or o e ≡ Ok x → Some x ≡ o
-ok_told None e x h = cc
-ok_told (Some y) e x h = cc
-
-pub err_told : {A E : Type 0} (o : Option A) (e x : E) → ok_or o e ≡ Err x → (None ≡ o) × (x ≡ e)
-err_told None e x h = (refl, cc)
-err_told (Some y) e x h = cc
-
 -- ---- The map of a request that is written
 -- a number that is no kind
 pub map_no_kind : (k f : ℕ) → ◌≡◌ {A = Option Kind} None (result_ok (kind_of k)) → None ≡ map_with k f

@@ -37,7 +37,7 @@ pub fn byte(bytes: &[u8], at: usize) -> u8
 pub fn has_bit(word: u64, k: usize) -> bool
     ensures { result ≡ (leb k 63 && has_bit word k) }
 {
-    if k < 64 { (word >> k) & 1 == 1 } else { false }
+    k < 64 && (word >> k) & 1 == 1
 }
 
 // Whether a map has a bit.
@@ -56,7 +56,7 @@ fn map_of(bytes: &[u8]) -> u16
 }
 
 // The big-endian number of some bytes, 0 where one of them is missing.
-// Form: 0 and no Option, for the reason of `byte`.
+// Form: 0 and no Option, since one test of the length behind the last field decides (R3.5, R4.3).
 fn number(bytes: &[u8], at: usize, width: usize) -> u32
     requires { (at ≤ cursor_most 16) × (width ≤ 4) }
     ensures { Numbered bytes.now at width result }

@@ -139,7 +139,7 @@ fn parts_of(bytes: &[u8], map: u16) -> Option<Parts>
 }
 
 // The ticket of a part of the request, a blank one where the map has none, or 60.
-// Form: the bit is a number with a `requires`, as in the methods of `Form`, and for their reason.
+// Form: the bit is a number with a `requires`, as the methods of `Form` take it: an enum of the fields would be the same number again.
 fn embedded_in(bytes: &[u8], map: u16, bit: usize, span: Span) -> Result<Ticket, Error>
     requires { (bit < 8) × (span.at + span.len ≤ length bytes.now) }
     ensures { result ≡ embedded_in bytes.now map bit span }
@@ -172,9 +172,7 @@ pub fn read_rest(bytes: &[u8], kind: Kind) -> Result<Request, Error>
     ensures { result ≡ request_for bytes.now (map_of bytes.now) (Some kind) }
 {
     let map = map_of(bytes);
-    let Some(parts) = parts_of(bytes, map) else {
-        return Err(Error::KRB_ERR_GENERIC);
-    };
+    let parts = parts_of(bytes, map).ok_or(Error::KRB_ERR_GENERIC)?;
     let tgt = embedded_in(bytes, map, 4, parts.tgt)?;
     let evidence = embedded_in(bytes, map, 5, parts.evidence)?;
     Ok(Request {

@@ -41,7 +41,7 @@ fn map_with(kind: u32, fields: u32) -> Option<u16>
 }
 
 // Whether a number, or a length, has room in the head of its field, or is 0 where the field does not stand.
-// Form: the bit is a number with a `requires`, here and in `record_fits`, as in the methods of `Form`, and for their reason.
+// Form: the bit is a number with a `requires`, here and in `record_fits`, as the methods of `Form` take it: an enum of the fields would be the same number again.
 #[tactic(auto, unfolding(definitions::specs::RequestWriting::number_fits))]
 fn number_fits(map: u16, bit: usize, room: u64, number: u64) -> bool
     requires { (bit < length request_layout) × (room ≡ 256 ^ (field_at request_layout bit).head) }
@@ -140,9 +140,7 @@ pub fn write_request(draft: Draft, out: &mut [u8]) -> Result<usize, Error>
     ensures answer { result ≡ request_written (drafted draft.entry) (length out.old) }
     ensures output { out.new ≡ request_output (drafted draft.entry) out.old }
 {
-    let Some(map) = writable_map(draft) else {
-        return Err(Error::KRB_ERR_GENERIC);
-    };
+    let map = writable_map(draft).ok_or(Error::KRB_ERR_GENERIC)?;
     if out.len() < request_size(map, draft) {
         return Err(Error::KRB_ERR_RESPONSE_TOO_BIG);
     }

@@ -24,11 +24,7 @@ fn map_for(origin: Origin, barred: bool) -> u16
 fn zero_behind(trail: [Principal; TRAIL_LIMIT], hops: u8) -> bool
     ensures { result ≡ all_zero (drop hops trail) }
 {
-    if (hops as usize) < TRAIL_LIMIT {
-        trail_word(trail) >> (8 * hops as u32) == 0
-    } else {
-        true
-    }
+    TRAIL_LIMIT <= hops as usize || trail_word(trail) >> (8 * hops as u32) == 0
 }
 
 // Whether a service stands only where the map has one.

@@ -5,7 +5,8 @@ use Rattle.definitions.specs.Fields.{Bytes}
 use Rattle.definitions.specs.declared.error.Error.TheVariants.{KRB_ERR_GENERIC}
 use Rattle.definitions.specs.Services.{Service}
 use Rattle.definitions.proofs.Requests.{read-refuse}
-use Rattle.definitions.proofs.Checks.{ok_same}
+use Rattle.std.proofs.lemmas.Result.{err_from_is_err_and}
+use Rattle.definitions.proofs.Checks.{ok_same, err_told}
 use Rattle.definitions.proofs.Answers.{unread}
 use Rattle.definitions.specs.AccountWords.{table_of}
 use Rattle.definitions.specs.LedgerWords.{tickets_of, next_number}
@@ -13,13 +14,16 @@ use Rattle.definitions.proofs.Services.{performed-refused, granting, performed-g
 use Rattle.ledger.proofs.Lookups.{granted-length}
 use Rattle.ledger.proofs.call.request.Goals as goal
 
-pub returns-in_default-clause-performed : goal.returns-in_default-clause-performed
-returns-in_default-clause-performed c =
+pub returns-in_err-kind-clause-performed : goal.returns-in_err-kind-clause-performed
+returns-in_err-kind-clause-performed c =
     let a = c.args in
     let s : Service = record { accounts = a.accounts.now; ledger = a.ledger.now } in
-    performed-refused s a.bytes.now a.clock a.output.now KRB_ERR_GENERIC
+    let p = err_from_is_err_and c.from_residual.result c.from_residual.ensures.1 in
+    let none = err_told _ _ _ (sym c.ok_or.ensures.value ∙ c.in_err-kind.was) in
+    rw (p.1, p.2, none.1)
+    (performed-refused s a.bytes.now a.clock a.output.now KRB_ERR_GENERIC
     (unread (table_of a.accounts.now) (tickets_of a.ledger.now) (next_number a.ledger.now) a.bytes.now a.clock (length a.output.now) KRB_ERR_GENERIC
-    (sym (read-refuse a.bytes.now (sym c.in_default.is ∙ c.request_path.ensures))))
+    (sym (read-refuse a.bytes.now (none.0 ∙ c.request_path.ensures)))))
 
 pub store_ticket-requires : goal.store_ticket-requires
 store_ticket-requires c =

@@ -1,7 +1,7 @@
 use Rattle.std.proofs.Common.{sym, ◌∙◌}
 use Rattle.std.proofs.lemmas.Result.{err_from_is_err_and}
 use Rattle.definitions.proofs.Requests.{read-along, read-refuse}
-use Rattle.record.proofs.Cursor.{ok_told, err_told}
+use Rattle.definitions.proofs.Checks.{ok_told, err_told}
 use Rattle.record.proofs.request.read_request.Goals as goal
 
 pub returns-in_err-kind : goal.returns-in_err-kind

@@ -14,14 +14,14 @@ loop-k-init c =
     let number = c.args.number in
     let near = c.passed-near.result in
     let m = c.passed.result in
-    let last = c.saturating_sub-last.result / 4 in
-    let numbers = mid_of 8 (8 + last - 8) w in
+    let numbers = c.first_numbers-numbers.result.now in
     let rest = take (length numbers - near) (drop near numbers) in
+    let word = c.first_numbers-numbers.ensures.each in
     none_more w number 0 (4 * near) (4 * (near + m))
-    (rw zero-add at (none_in w number numbers 0 near (λ j l. let z : 8 + (0 + j) ≡ 8 + j = omega arith in rw z (part-at w 8 (8 + last - 8) j (omega (arith, c.passed-near.ensures.bounded)))) c.passed-near.ensures.passed))
+    (rw zero-add at (none_in w number numbers 0 near (λ j l. let z : 8 + (0 + j) ≡ 8 + j = omega arith in rw z (word j (omega (arith, c.passed-near.ensures.bounded, c.first_numbers-numbers.ensures.all)))) c.passed-near.ensures.passed))
     (none_in w number rest near m
     (λ j l. part-at numbers near (length numbers - near) j (omega (arith, c.passed.ensures.bounded))
-    ∙ part-at w 8 (8 + last - 8) (near + j) (omega (arith, c.passed.ensures.bounded, length-take (length numbers - near) (drop near numbers))))
+    ∙ word (near + j) (omega (arith, c.passed.ensures.bounded, c.first_numbers-numbers.ensures.all, length-take (length numbers - near) (drop near numbers))))
     c.passed.ensures.passed)
 
 pub returns-in-Some : goal.returns-in-Some
