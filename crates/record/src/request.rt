@@ -110,7 +110,7 @@ struct Parts {
     service: Span,
 }
 
-// The fields of a request, front to back, each taken once; none where a byte is missing or left over.
+// The fields of a request, front to back, each taken once; none where the bytes are too few or too many.
 fn parts_of(bytes: &[u8], map: u16) -> Option<Parts>
     ensures { result ≡ (if length bytes.now == end_of request_layout bytes.now map then Some (parts_of bytes.now map) else None) }
 {
