@@ -33,7 +33,6 @@ use Rattle.record.specs.Drafts.{size_of}
 use Rattle.definitions.specs.RequestWriting.{RequestParts, map_of_parts, part_values, writable, request_of, request_written, request_output}
 use Rattle.std.specs.Prelude.{Option, Some, None, Ok, Err}
 use Rattle.std.specs.Bool.{then_some}
-use Rattle.std.specs.Option.{ok_or}
 use Rattle.std.specs.Result.{result_ok}
 use Rattle.definitions.proofs.Requests.{allowed-small, path_above, path_no_kind, kind_read}
 

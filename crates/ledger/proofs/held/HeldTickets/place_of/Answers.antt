@@ -1,8 +1,7 @@
 use mathlib.Core.Path.{◌≡◌, sym, ◌∙◌}
-use Prim.Native.Nat.{◌+◌, ◌*◌, ◌/◌, ◌-◌}
+use Prim.Native.Nat.{◌+◌, ◌*◌, ◌-◌}
 use native.Mathlib.Nat.{zero-add}
 use native.Mathlib.Omega.{arith}
-use borrow.Rule.Slice.PartMut.{mid_of}
 use lib.ListN.{length, take, drop}
 use Rattle.std.proofs.lemmas.List.{length-take}
 use Rattle.ledger.proofs.Lookups.{none_more, none_in, none_before, lane-found, lane-none, part-at, first-at, first-none}
