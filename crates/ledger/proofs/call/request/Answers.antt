@@ -19,7 +19,7 @@ returns-in_err-kind-clause-performed c =
     let a = c.args in
     let s : Service = record { accounts = a.accounts.now; ledger = a.ledger.now } in
     let p = err_from_is_err_and c.from_residual.result c.from_residual.ensures.1 in
-    let none = err_told _ _ _ (sym c.ok_or.ensures.value ∙ c.in_err-kind.was) in
+    let none = err_told _ _ c.ok_or.ensures.value c.in_err-kind.was in
     rw (p.1, p.2, none.1)
     (performed-refused s a.bytes.now a.clock a.output.now KRB_ERR_GENERIC
     (unread (table_of a.accounts.now) (tickets_of a.ledger.now) (next_number a.ledger.now) a.bytes.now a.clock (length a.output.now) KRB_ERR_GENERIC

@@ -13,20 +13,20 @@ pub returns-in_err-origin-clause-exact : goal.returns-in_err-origin-clause-exact
 returns-in_err-origin-clause-exact t c =
     let l = tickets_of c.args.held.words.now in
     let p = err_from_is_err_and c.from_residual.result c.from_residual.ensures.1 in
-    let none = err_told _ _ _ (sym c.ok_or.ensures.value ∙ c.in_err-origin.was) in
+    let none = err_told _ _ c.ok_or.ensures.value c.in_err-origin.was in
     rw (p.1, p.2, none.1) (sym (ap descended (steps-none l c.args.number (origin-none l c.args.number (sym c.origin.ensures ∙ sym none.0)))))
 
 pub returns-in_default-clause-exact : goal.returns-in_default-clause-exact
 returns-in_default-clause-exact t c =
     let l = tickets_of c.args.held.words.now in
-    let f = origin-some l c.args.number c.in_ok-origin.origin (sym c.origin.ensures ∙ sym (ok_told _ _ _ (sym c.ok_or.ensures.value ∙ c.in_ok-origin.was))) in
+    let f = origin-some l c.args.number c.in_ok-origin.origin (sym c.origin.ensures ∙ sym (ok_told _ _ c.ok_or.ensures.value c.in_ok-origin.was)) in
     let g = given-none (back_of c.in_ok-origin.origin) (sym c.back_of.ensures ∙ c.in_default.is) in
     sym (ap descended (steps-here l c.args.number f.0 f.1 (ap back_of f.2 ∙ g)))
 
 pub returns-else-next-number-clause-exact : goal.returns-else-next-number-clause-exact
 returns-else-next-number-clause-exact t c =
     let l = tickets_of c.args.held.words.now in
-    let f = origin-some l c.args.number c.in_ok-origin.origin (sym c.origin.ensures ∙ sym (ok_told _ _ _ (sym c.ok_or.ensures.value ∙ c.in_ok-origin.was))) in
+    let f = origin-some l c.args.number c.in_ok-origin.origin (sym c.origin.ensures ∙ sym (ok_told _ _ c.ok_or.ensures.value c.in_ok-origin.was)) in
     let n = c.in-Some.next in
     let g = given-some (back_of c.in_ok-origin.origin) n (sym c.back_of.ensures ∙ c.in-Some.is) in
     sym (ap descended (steps-stuck l c.args.number f.0 n f.1 (ap back_of f.2 ∙ g) c.if-next-number.false))
@@ -34,7 +34,7 @@ returns-else-next-number-clause-exact t c =
 pub returns-in_err-steps_from-clause-exact : goal.returns-in_err-steps_from-clause-exact
 returns-in_err-steps_from-clause-exact t c =
     let l = tickets_of c.args.held.words.now in
-    let f = origin-some l c.args.number c.in_ok-origin.origin (sym c.origin.ensures ∙ sym (ok_told _ _ _ (sym c.ok_or.ensures.value ∙ c.in_ok-origin.was))) in
+    let f = origin-some l c.args.number c.in_ok-origin.origin (sym c.origin.ensures ∙ sym (ok_told _ _ c.ok_or.ensures.value c.in_ok-origin.was)) in
     let n = c.in-Some.next in
     let g = given-some (back_of c.in_ok-origin.origin) n (sym c.back_of.ensures ∙ c.in-Some.is) in
     let p = err_from_is_err_and c.from_residual-in_err-steps_from.result c.from_residual-in_err-steps_from.ensures.1 in
@@ -44,7 +44,7 @@ returns-in_err-steps_from-clause-exact t c =
 pub returns-in_ok-steps_from-clause-exact : goal.returns-in_ok-steps_from-clause-exact
 returns-in_ok-steps_from-clause-exact t c =
     let l = tickets_of c.args.held.words.now in
-    let f = origin-some l c.args.number c.in_ok-origin.origin (sym c.origin.ensures ∙ sym (ok_told _ _ _ (sym c.ok_or.ensures.value ∙ c.in_ok-origin.was))) in
+    let f = origin-some l c.args.number c.in_ok-origin.origin (sym c.origin.ensures ∙ sym (ok_told _ _ c.ok_or.ensures.value c.in_ok-origin.was)) in
     let n = c.in-Some.next in
     let g = given-some (back_of c.in_ok-origin.origin) n (sym c.back_of.ensures ∙ c.in-Some.is) in
     more-counted (descent l n) c.in_ok-steps_from.field-0 (sym c.steps_from.ensures.exact ∙ c.in_ok-steps_from.was)

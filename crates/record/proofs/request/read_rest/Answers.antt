@@ -13,7 +13,7 @@ returns-in_err-parts c =
     let s = c.args.bytes.now in
     let m = c.map_of-map in
     let p = err_from_is_err_and c.from_residual.result c.from_residual.ensures.1 in
-    let none = err_told _ _ _ (sym c.ok_or.ensures.value ∙ c.in_err-parts.was) in
+    let none = err_told _ _ c.ok_or.ensures.value c.in_err-parts.was in
     rw (p.1, p.2, none.1)
     (request-no s m.result c.args.kind (not-whole s m.result (λ e. false≢true (sym (none_told _ _ (none.0 ∙ c.parts_of.ensures)) ∙ eq-eqb _ _ e)))
     ∙ rw m.ensures)
@@ -22,14 +22,14 @@ pub embedded_in-requires : goal.embedded_in-requires
 embedded_in-requires c =
     let s = c.args.bytes.now in
     let m = c.map_of-map.result in
-    let found = some_told _ _ _ (ok_told _ _ _ (sym c.ok_or.ensures.value ∙ c.in_ok-parts.was) ∙ c.parts_of.ensures) in
+    let found = some_told _ _ _ (ok_told _ _ c.ok_or.ensures.value c.in_ok-parts.was ∙ c.parts_of.ensures) in
     rw found.1 (omega arith, span-within s m 4 (omega arith) (omega (arith, eqb-true _ _ found.0)))
 
 pub embedded_in-requires-2 : goal.embedded_in-requires-2
 embedded_in-requires-2 c =
     let s = c.args.bytes.now in
     let m = c.map_of-map.result in
-    let found = some_told _ _ _ (ok_told _ _ _ (sym c.ok_or.ensures.value ∙ c.in_ok-parts.was) ∙ c.parts_of.ensures) in
+    let found = some_told _ _ _ (ok_told _ _ c.ok_or.ensures.value c.in_ok-parts.was ∙ c.parts_of.ensures) in
     rw found.1 (omega arith, span-within s m 5 (omega arith) (omega (arith, eqb-true _ _ found.0)))
 
 pub returns-in_err-tgt : goal.returns-in_err-tgt
@@ -37,7 +37,7 @@ unfolding embedded_of
 returns-in_err-tgt c =
     let s = c.args.bytes.now in
     let m = c.map_of-map in
-    let found = some_told _ _ _ (ok_told _ _ _ (sym c.ok_or.ensures.value ∙ c.in_ok-parts.was) ∙ c.parts_of.ensures) in
+    let found = some_told _ _ _ (ok_told _ _ c.ok_or.ensures.value c.in_ok-parts.was ∙ c.parts_of.ensures) in
     let t = rw found.1 at c.embedded_in.ensures in
     let p = err_from_is_err_and c.from_residual-in_err-tgt.result c.from_residual-in_err-tgt.ensures.1 in
     rw (p.1, p.2, sym m.ensures) (tgt-unread s m.result c.args.kind (eqb-true _ _ found.0) c.in_err-tgt.field-0.0 (sym t ∙ c.in_err-tgt.was))
@@ -47,7 +47,7 @@ unfolding embedded_of
 returns-in_err-evidence c =
     let s = c.args.bytes.now in
     let m = c.map_of-map in
-    let found = some_told _ _ _ (ok_told _ _ _ (sym c.ok_or.ensures.value ∙ c.in_ok-parts.was) ∙ c.parts_of.ensures) in
+    let found = some_told _ _ _ (ok_told _ _ c.ok_or.ensures.value c.in_ok-parts.was ∙ c.parts_of.ensures) in
     let t = rw found.1 at c.embedded_in.ensures in
     let e = rw found.1 at c.embedded_in-2.ensures in
     let p = err_from_is_err_and c.from_residual-in_err-evidence.result c.from_residual-in_err-evidence.ensures.1 in
@@ -59,7 +59,7 @@ unfolding embedded_of
 returns c =
     let s = c.args.bytes.now in
     let m = c.map_of-map in
-    let found = some_told _ _ _ (ok_told _ _ _ (sym c.ok_or.ensures.value ∙ c.in_ok-parts.was) ∙ c.parts_of.ensures) in
+    let found = some_told _ _ _ (ok_told _ _ c.ok_or.ensures.value c.in_ok-parts.was ∙ c.parts_of.ensures) in
     let t = rw found.1 at c.embedded_in.ensures in
     let e = rw found.1 at c.embedded_in-2.ensures in
     rw (found.1, sym m.ensures)
