@@ -7,6 +7,7 @@ use Rattle.definitions.specs.declared.error.Error.{Error}
 use Rattle.definitions.specs.Fields.{Bytes, Layout, field_at, has_bit, map_of, Value, plain, value_at, bytes_to}
 use Rattle.definitions.specs.TicketRecords.{read_ticket, record_of}
 use Rattle.definitions.specs.Requests.{request_layout, needed_bits, kind_number, path_of, part_of}
+use Rattle.definitions.specs.declared.request.Draft.{Draft}
 use Rattle.definitions.specs.declared.request.Request.{Request}
 use Rattle.definitions.specs.declared.error.Error.TheVariants.{KRB_ERR_RESPONSE_TOO_BIG, KRB_ERR_GENERIC}
 
@@ -45,6 +46,11 @@ request_parts kind options pac_options till tgt evidence user service fields =
       service = service;
       fields = fields;
     }
+
+-- the parts of a draft
+abbrev pub drafted : Draft → RequestParts
+drafted draft =
+    request_parts draft.kind draft.options draft.pac_options draft.till draft.tgt.now draft.evidence.now draft.user.now draft.service.now draft.fields
 
 -- R4.8: the map: the bits that the kind needs, together with the mask's
 abbrev pub map_of_parts : RequestParts → ℕ

@@ -27,6 +27,11 @@ pub const LAST_NUMBER: u64 = 65535;
 // The seconds by which a clock reading may be before the start of a presented ticket (R5.2).
 pub const CLOCK_SKEW: u64 = 300;
 
+// The last second that a clock reading or an end can name (R1.2). It is the last number of 32 bits, so that a sum of seconds that saturates ends with it.
+pub const LAST_SECOND: u32 = 4294967295;
+
+const _: () = prove!(LAST_SECOND == u32::MAX);
+
 // What 4, 8, 16, 32, 40, 48, 56 and 60 bits count to.
 pub const TWO_4: u64 = 16;
 

@@ -1,14 +1,8 @@
--- Drafts of requests, as the writer is given them (R4.8).
+-- The parts of a request, as the writer counts them (R4.8).
 -- Assumes nothing.
 use Rattle.std.specs.Prelude.{ℕ, ◌<◌, [], ◌∷◌, length}
-use Rattle.definitions.specs.RequestWriting.{RequestParts, request_parts}
+use Rattle.definitions.specs.RequestWriting.{RequestParts}
 use Rattle.record.specs.Cursor.{size_to}
-use Rattle.record.specs.declared.request_writer.Draft.{Draft}
-
--- the parts of a draft
-abbrev pub drafted : Draft → RequestParts
-drafted draft =
-    request_parts draft.kind draft.options draft.pac_options draft.till draft.tgt.now draft.evidence.now draft.user.now draft.service.now draft.fields
 
 -- records and names are short enough for the byte that says their length
 pub record ShortParts (parts : RequestParts) : Type 0 where

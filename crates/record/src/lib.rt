@@ -16,11 +16,12 @@ ghost use Rattle.std.specs.Prelude.{◌≡◌, ◌&&◌, ◌≤◌, ◌<◌, get
 ghost use Rattle.definitions.specs.Fields.{has_bit, map_of};
 ghost use Rattle.record.specs.Cursor.{cursor_most, Numbered};
 
+pub use definitions::Draft;
 pub use errors::answer_number;
 pub use packing::{name_in, pack_name};
 pub use reader::read_ticket;
 pub use request::{read_request, read_rest, request_path};
-pub use request_writer::{Draft, write_request};
+pub use request_writer::write_request;
 pub use spelling::{good_name, set_length};
 pub use ticket::{blank_ticket, evidence_of, tgt_of, trail_word};
 pub use writer::write_ticket;

@@ -2,31 +2,16 @@
 ghost use Rattle.std.specs.Prelude.{◌≡◌, [], ◌∷◌, ◌^◌, ◌≤◌, ◌<◌, length};
 ghost use Rattle.definitions.specs.Fields.{field_at, bytes_to};
 ghost use Rattle.definitions.specs.Requests.{request_layout};
-ghost use Rattle.definitions.specs.RequestWriting.{part_values, number_fits, numbers_fit, record_fits, request_written, request_output};
+ghost use Rattle.definitions.specs.RequestWriting.{drafted, part_values, number_fits, numbers_fit, record_fits, request_written, request_output};
 ghost use Rattle.record.specs.Cursor.{map_with, parts_fit, writable_map, Wrote};
-ghost use Rattle.record.specs.Drafts.{drafted, size_of, ShortParts};
+ghost use Rattle.record.specs.Drafts.{size_of, ShortParts};
 
 use crate::form::Form;
 use crate::present;
 use crate::reader::read_ticket;
 use crate::request::{LAYOUT, needed_bits, path_of};
 use crate::writer::put;
-use definitions::{Error, Kind, TWO_8, TWO_32};
-
-// What a request is written from: four numbers, the records of two tickets, two names, and a mask of the optional fields that stand.
-// Form: numbers for the kind and for what stands, and no `Kind` and Options, since any are taken, and what no request can have is refused (R4.8).
-#[derive(Clone, Copy)]
-pub struct Draft<'a> {
-    pub kind: u32,
-    pub options: u32,
-    pub pac_options: u32,
-    pub till: u32,
-    pub tgt: &'a [u8],
-    pub evidence: &'a [u8],
-    pub user: &'a [u8],
-    pub service: &'a [u8],
-    pub fields: u32,
-}
+use definitions::{Draft, Error, Kind, TWO_8, TWO_32};
 
 // The map of a kind with a mask of fields, if there is one.
 #[tactic(auto, using(crate::proofs::Cursor::map_no_kind, crate::proofs::Cursor::map_above), unfolding(crate::specs::Cursor::map_with))]

@@ -56,14 +56,17 @@ pub(crate) fn put(out: &mut [u8], at: &mut usize, width: usize, number: u32)
 }
 
 // Puts the bytes of a slice at the cursor.
+// Form: byte by byte and no `copy_from_slice`, for which the archive for C would need `memmove` from outside, where it needs `memcpy` and `memset`.
 pub(crate) fn copy(out: &mut [u8], at: &mut usize, src: &[u8])
     requires { at.old + length src.now ≤ length out.old }
     ensures put { Wrote out.old at.old src.now out.new at.new }
     ensures past { at.new ≡ at.old + length src.now }
 {
-    let end = *at + src.len();
-    out[*at..end].copy_from_slice(src);
-    *at = end;
+    let start = *at;
+    for (i, byte) in src.iter().enumerate() {
+        out[start + i] = *byte;
+    }
+    *at = start + src.len();
 }
 
 // Puts the record of a ticket with a map, front to back, and returns its length.

@@ -1,5 +1,5 @@
 use Rattle.std.proofs.Common.{◌∙◌}
-use Rattle.record.specs.Drafts.{drafted}
+use Rattle.definitions.specs.RequestWriting.{drafted}
 use Rattle.record.proofs.Cursor.{map-writable, map-unwritable}
 use Rattle.record.proofs.request_writer.writable_map.Goals as goal
 

@@ -1,7 +1,7 @@
 use Rattle.std.proofs.Common.{arith, ◌∙◌}
 use Rattle.std.proofs.lemmas.Result.{err_from_is_err_and}
 use Rattle.definitions.proofs.RequestWriting.{lengths-few}
-use Rattle.record.specs.Drafts.{drafted}
+use Rattle.definitions.specs.RequestWriting.{drafted}
 use Rattle.definitions.proofs.Checks.{ok_told, err_told}
 use Rattle.record.proofs.Cursor.{some_told, none_told, request-length, request-unwritable, request-short, request-wrote}
 use Rattle.record.proofs.request_writer.write_request.Goals as goal
