@@ -92,8 +92,9 @@ pub fn request(
 {
     let kind = request_path(bytes).ok_or(Error::KRB_ERR_GENERIC)?;
     let held = HeldTickets::of(ledger);
+    let count = held.count;
     let ticket = decide_request(accounts, held, bytes, clock, output.len(), kind)?;
-    store_ticket(ledger, ticket);
+    store_ticket(ledger, count, ticket);
     let length = write_ticket(ticket, output).unwrap();
     Ok(Granted { ticket, length })
 }

@@ -36,12 +36,16 @@ fn none_among(numbers: &[u64], number: u16) -> bool
     marks == TOP_BITS
 }
 
-// How many words of numbers do not have a number, by blocks of N words. What no longer fills a block is left.
+// How many words of numbers do not have a number, by blocks of N words. What no longer fills a block is left. Where there are too few for
+// one, that is tested first: a descent over few tickets looks up at each step, and would make a search ready each time.
 pub(crate) fn passed<const N: usize>(numbers: &[u64], number: u16) -> usize
     requires { 0 < N }
     ensures bounded { result ≤ length numbers.now }
     ensures passed { NoneIn numbers.now number result }
 {
+    if numbers.len() < N {
+        return 0;
+    }
     for (i, block) in numbers.chunks_exact(N).enumerate() {
         if !none_among(block, number) {
             return N * i;

@@ -1,5 +1,5 @@
 // The descent call: the steps from a ticket to its initial one (R7.4, R9.1).
-ghost use Rattle.std.specs.Prelude.{◌≡◌, ◌≤◌, IfOk};
+ghost use Rattle.std.specs.Prelude.{◌≡◌, ◌≤◌, IfSome};
 ghost use Rattle.definitions.specs.LedgerWords.{tickets_of};
 ghost use Rattle.definitions.specs.Descent.{back_of, descent, descended};
 ghost use Rattle.ledger.specs.Lookups.{given};
@@ -20,19 +20,19 @@ fn back_of(origin: Origin) -> Option<u16>
     }
 }
 
-// The steps from a ticket to the initial one. Each step's number is smaller, so that the recursion ends.
-fn steps_from(held: HeldTickets, number: u16) -> Result<u32, Error>
-    ensures exact { result ≡ descended (descent (tickets_of held.entry.words.now) number) }
-    ensures bounded { IfOk result (λ steps. steps ≤ number) }
+// The steps from a ticket to the initial one, if the way leads there. Each step's number is smaller, so that the recursion ends.
+fn steps_from(held: HeldTickets, number: u16) -> Option<u32>
+    ensures exact { result ≡ given (descent (tickets_of held.entry.words.now) number) }
+    ensures bounded { IfSome result (λ steps. steps ≤ number) }
 {
-    let origin = held.origin(number).ok_or(Error::KRB_AP_ERR_MODIFIED)?;
+    let origin = held.origin(number)?;
     let Some(next) = back_of(origin) else {
-        return Ok(0);
+        return Some(0);
     };
     if next < number {
-        Ok(steps_from(held, next)? + 1)
+        Some(steps_from(held, next)? + 1)
     } else {
-        Err(Error::KRB_AP_ERR_MODIFIED)
+        None
     }
 }
 
@@ -41,5 +41,5 @@ pub fn descent(words: &LedgerWords, number: u32) -> Result<u32, Error>
     ensures { result ≡ descended (descent (tickets_of words.now) number) }
 {
     let number = u16::try_from(number).or(Err(Error::KRB_AP_ERR_MODIFIED))?;
-    steps_from(HeldTickets::of(words), number)
+    steps_from(HeldTickets::of(words), number).ok_or(Error::KRB_AP_ERR_MODIFIED)
 }

@@ -3,7 +3,7 @@ ghost use Rattle.std.specs.Prelude.{◌≡◌, ◌+◌, ◌*◌, ◌<◌};
 ghost use Rattle.definitions.specs.Limits.{ticket_limit};
 ghost use Rattle.definitions.specs.LedgerWords.{count_held, next_number, tag_of, ticket_words, store_ticket};
 
-use crate::words::{LedgerWords, Place, Row, count_held, put_count, put_next};
+use crate::words::{LedgerWords, Place, Row, put_count, put_next};
 use definitions::{Origin, TWO_32, TWO_40, TWO_48, TWO_56, TWO_60, Ticket};
 use rules::{evidence_of, tgt_of, trail_word};
 
@@ -37,13 +37,12 @@ fn row_of(t: Ticket) -> Row
     ]
 }
 
-// Stores a ticket, which has the next number, behind those held.
+// Stores a ticket, which has the next number, behind those held, of which there are n.
 #[tactic(auto, unfolding(definitions::specs::LedgerWords::store_ticket))]
-pub(crate) fn store_ticket(words: &mut LedgerWords, t: Ticket)
-    requires { (count_held words.old < ticket_limit) × (t.number ≡ next_number words.old) }
+pub(crate) fn store_ticket(words: &mut LedgerWords, n: usize, t: Ticket)
+    requires { (n ≡ count_held words.old) × (n < ticket_limit) × (t.number ≡ next_number words.old) }
     ensures { words.new ≡ store_ticket words.old t }
 {
-    let n = count_held(words);
     let place = Place { index: n };
     place.put_number(words, t.number);
     place.put_row(words, &row_of(t));

@@ -31,7 +31,8 @@ store_ticket-requires c =
     let b : Bytes a.bytes.now = λ k. c.type_inv.bytes k in
     let e = sym (rw c.of-held.ensures at c.decide_request.ensures) ∙ c.in_ok-ticket.was in
     let g = granting (record { accounts = a.accounts.now; ledger = a.ledger.now }) a.bytes.now a.clock (length a.output.now) c.in_ok-ticket.ticket b c.ranges.clock e in
-    (omega (arith, g.place), g.number)
+    let count = rw c.of-held.ensures at c.of-held.result.counted in
+    (count, omega (arith, count, g.place), g.number)
 
 pub unwrap-length-requires : goal.unwrap-length-requires
 unwrap-length-requires c =

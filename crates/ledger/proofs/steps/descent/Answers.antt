@@ -2,7 +2,7 @@ use mathlib.Core.Path.{sym, ap, ◌∙◌}
 use Rattle.std.proofs.lemmas.Result.{err_from_is_err_and}
 use Rattle.definitions.specs.Descent.{descended}
 use Rattle.definitions.proofs.Descent.{steps-above}
-use Rattle.ledger.proofs.BackSteps.{or-number, or-none}
+use Rattle.ledger.proofs.BackSteps.{or-number, or-none, told-steps}
 use Rattle.ledger.proofs.steps.descent.Goals as goal
 
 pub returns-in_err-number : goal.returns-in_err-number
@@ -14,4 +14,4 @@ returns-in_err-number c =
 pub returns : goal.returns
 returns c =
     let same = or-number _ c.args.number _ _ c.try_from.ensures (sym c.or.ensures ∙ c.in_ok-number.was) in
-    rw (← same, ← c.of.ensures) c.steps_from.ensures.exact
+    rw (← same, ← c.of.ensures) (c.ok_or.ensures.value ∙ rw c.steps_from.ensures.exact (told-steps _))
