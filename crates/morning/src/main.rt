@@ -2,12 +2,14 @@
 // Prints a line for each request: its kind, the error number (0 granted), and the record in hexadecimal, or `-`.
 #![tactic(auto)]
 
-use anyhow::{Context, Result, anyhow};
+ghost use Rattle.std.specs.Prelude.{◌≤◌};
+ghost use Rattle.definitions.specs.Limits.{longest_record};
+
 use definitions::{ACCOUNTS_SIZE, Edit, Error, Kind, LEDGER_SIZE, LONGEST_RECORD, Settings};
 use ledger::LedgerWords;
 use record::Draft;
 use rules::{AccountWords, CNAME_IN_ADDL_TKT};
-use std::alloc::{AllocError, Global};
+use std::{fmt, io};
 
 // The bytes that the longest request takes, with a record or a name of 255 bytes in each of its four fields (R4.1).
 const LONGEST_REQUEST: usize = 1039;
@@ -59,53 +61,62 @@ fn to_service<'a>(tgt: &'a [u8], evidence: &'a [u8], service: &'a [u8]) -> Draft
     }
 }
 
-// What a refusal is told as where the morning can't go on without what was refused.
-fn refused(error: Error) -> anyhow::Error {
-    anyhow!("refused with {}", u32::from(error))
+// The record of a ticket, or no bytes where none was granted. It is written in hexadecimal.
+// Form: an array with its length beside it and no Vec, since the program runs without an allocator (D138).
+#[derive(Clone, Copy)]
+struct Record {
+    bytes: [u8; LONGEST_RECORD],
+    length: usize,
+    ghost within: { length ≤ longest_record },
 }
 
-// The bytes that are written into an output of so many bytes, or why none are; an error where there is no memory.
-// Form: the console has one too, whose error is a `Failure`; here a refusal is a value, since a line is printed of it. One for both would be a crate for three lines.
-fn filled<F: FnOnce(&mut [u8]) -> Result<usize, Error>>(
-    alloc: Global,
-    room: usize,
-    write: F,
-) -> Result<Result<Vec<u8>, Error>, AllocError>
-    requires { F.IsAlwaysCallable write }
-{
-    let mut bytes = vec![in alloc; 0; room]?;
-    Ok(write(&mut bytes).map(|length| {
-        bytes.truncate(length);
-        bytes
-    }))
+impl Record {
+    fn bytes(&self) -> &[u8] {
+        &self.bytes[..self.length]
+    }
 }
 
-// The service of the morning: its allocator, and the words of its accounts and of its ledger.
+impl Default for Record {
+    fn default() -> Self {
+        Record {
+            bytes: [0; LONGEST_RECORD],
+            length: 0,
+        }
+    }
+}
+
+impl fmt::Display for Record {
+    fn fmt<W: fmt::Write>(&self, f: &mut fmt::Formatter<W>) -> fmt::Result {
+        for byte in self.bytes() {
+            write!(f, "{byte:02x}")?;
+        }
+        Ok(())
+    }
+}
+
+// The service of the morning: the words of its accounts and of its ledger, which are lent to it.
+// Form: lent and not its own, since `new` would hand them on by copies: the program then needs up to 80 KB of stack, and so up to 36.
 // Form: the console has one of its own; a crate for what the two share, the words and a fresh start, would be no plainer.
 #[derive(Drop)]
-struct Service {
-    alloc: Global,
-    accounts: AccountWords,
-    ledger: LedgerWords,
+struct Service<'a> {
+    accounts: &'a mut AccountWords,
+    ledger: &'a mut LedgerWords,
 }
 
-impl Service {
+impl<'a> Service<'a> {
     // A fresh service with the three accounts of R11.1.
-    fn new(alloc: Global) -> Result<Self> {
-        let mut service = Service {
-            alloc,
-            accounts: [0; ACCOUNTS_SIZE],
-            ledger: [0; LEDGER_SIZE],
-        };
-        ledger::fresh(&mut service.accounts, &mut service.ledger);
-        service.edit(0, b"tech", 0, 0)?;
-        service.edit(1, b"web", 12, 0x4)?;
-        service.edit(2, b"store", 8, 0)?;
-        Ok(service)
+    fn new(accounts: &'a mut AccountWords, ledger: &'a mut LedgerWords) -> Self {
+        ledger::fresh(accounts, ledger);
+        let mut service = Service { accounts, ledger };
+        service.edit(0, b"tech", 0, 0);
+        service.edit(1, b"web", 12, 0x4);
+        service.edit(2, b"store", 8, 0);
+        service
     }
 
     // Sets an account that has no receive set, and whose tickets last ten hours.
-    fn edit(&mut self, number: u32, name: &[u8], flags: u32, send: u64) -> Result<()> {
+    // Form: a refusal is let go, so that only a write that fails ends the program; the answers to the requests would show it.
+    fn edit(&mut self, number: u32, name: &[u8], flags: u32, send: u64) {
         let settings = Settings {
             flags,
             send,
@@ -117,30 +128,33 @@ impl Service {
             name,
             settings,
         };
-        ledger::edit(&mut self.accounts, edit).map_err(refused)
+        let _ = ledger::edit(self.accounts, edit);
     }
 
-    // Makes a request at a clock reading and prints its line; answers the record of the ticket, where one is granted.
-    fn ask(&mut self, rt: &impl Print, draft: Draft, clock: u32) -> Result<Option<Vec<u8>>> {
-        let request = filled(
-            self.alloc,
-            LONGEST_REQUEST,
-            |output| record::write_request(draft, output),
-        )?
-        .map_err(refused)?;
-        let answer = filled(self.alloc, LONGEST_RECORD, |output| {
-            let granted = ledger::request(
-                &mut self.accounts,
-                &mut self.ledger,
-                &request,
-                clock,
-                output,
-            )?;
-            Ok(granted.length)
-        })?;
-        match answer {
+    // Makes a request at a clock reading; answers the record of the ticket.
+    #[tactic(auto, unfolding(definitions::specs::RequestWriting::request_written))]
+    fn request(&mut self, draft: Draft, clock: u32) -> Result<Record, Error> {
+        let mut request = [0; LONGEST_REQUEST];
+        let size = record::write_request(draft, &mut request)?;
+        let mut bytes = [0; LONGEST_RECORD];
+        let granted = ledger::request(
+            self.accounts,
+            self.ledger,
+            &request[..size],
+            clock,
+            &mut bytes,
+        )?;
+        Ok(Record {
+            bytes,
+            length: granted.length,
+        })
+    }
+
+    // Makes a request and prints its line; answers the record of the ticket, where one is granted.
+    fn ask(&mut self, rt: &impl Print, draft: Draft, clock: u32) -> io::Result<Option<Record>> {
+        match self.request(draft, clock) {
             Ok(record) => {
-                println!(rt; "{} 0 {}", draft.kind, hex::encode(self.alloc, &record)?)?;
+                println!(rt; "{} 0 {record}", draft.kind)?;
                 Ok(Some(record))
             }
             Err(error) => {
@@ -151,13 +165,16 @@ impl Service {
     }
 }
 
-fn main(rt: HostRuntime) -> Result<()> {
-    let mut service = Service::new(rt.alloc())?;
-    let tgt = service.ask(&rt, initial(b"web"), 1000)?.context("no TGT")?;
+// Where no ticket is granted, the requests that follow have no bytes for its record, so that each of the four has its line.
+fn main(rt: HostRuntime) -> io::Result<()> {
+    let mut accounts = [0; ACCOUNTS_SIZE];
+    let mut ledger = [0; LEDGER_SIZE];
+    let mut service = Service::new(&mut accounts, &mut ledger);
+    let tgt = service.ask(&rt, initial(b"web"), 1000)?.unwrap_or_default();
     let evidence = service
-        .ask(&rt, to_itself(&tgt, b"tech"), 1010)?
-        .context("no evidence")?;
-    let hop = to_service(&tgt, &evidence, b"store");
+        .ask(&rt, to_itself(tgt.bytes(), b"tech"), 1010)?
+        .unwrap_or_default();
+    let hop = to_service(tgt.bytes(), evidence.bytes(), b"store");
     service.ask(&rt, hop, 1020)?;
     service.ask(&rt, hop, 37000)?;
     Ok(())

@@ -11,15 +11,16 @@
 // One space parts the words. Those after the first are hexadecimal, in lower case, and `-` is no bytes. SIZE is one byte. A VALUE is 31 bytes:
 // number 2, flags 4, client 1, service 1, start 4, end 4, origin 1 (initial 0, direct 1, self 2, delegated 3), TGT 2, evidence 2, hops 1,
 // trail 8, barred 1. A digit that is not hexadecimal counts as 0, and one that is missing too. A line of no form is answered by `?`, and an empty
-// line ends the input, as its end does. The files `stdin` and `stdout` come from a second implementation (harness/src/bin/record_vectors.rs).
+// line ends the input, as its end does; what stands behind it is left to the next reader of the input. The files `stdin` and `stdout` come from a
+// second implementation (harness/src/bin/record_vectors.rs).
 #![tactic(auto)]
 
-ghost use Rattle.std.specs.Prelude.{◌<◌};
+ghost use Rattle.std.specs.Prelude.{◌<◌, ◌≤◌};
+ghost use Rattle.record_vectors.specs.declared.TheConstants.{LONGEST_WORD};
 
 use definitions::{Error, Origin, Request, TRAIL_LIMIT, Ticket, Window};
-use std::alloc::{AllocError, Global};
-use std::io;
-use std::io::{BufRead, BufReader, Read};
+use std::io::BufRead;
+use std::{fmt, io};
 
 // The bytes of the longest line; a longer one is as many lines as it has such parts.
 const LONGEST_LINE: usize = 1024;
@@ -33,50 +34,69 @@ const LONGEST_OUTPUT: usize = 40;
 // A line of the input.
 #[derive(Drop)]
 enum Vector {
-    Ticket(Vec<u8>),
-    Write(u8, Vec<u8>),
+    Ticket(Word),
+    Write(u8, Word),
     Value(u8, Ticket),
     Same(Ticket, Ticket),
-    Request(Vec<u8>),
+    Request(Word),
 }
 
 impl Vector {
     // The first letter of a line tells its form, and each form has its words at fixed places.
-    fn parse(alloc: Global, line: &[u8]) -> Result<Option<Self>, AllocError> {
-        Ok(Some(match line {
-            [b't', ..] => Vector::Ticket(Digits::of(line, 7).bytes(alloc)?),
-            [b'w', ..] => Vector::Write(
-                Digits::of(line, 6).byte(),
-                Digits::of(line, 9).bytes(alloc)?,
-            ),
+    fn parse(line: &[u8]) -> Option<Self> {
+        Some(match line {
+            [b't', ..] => Vector::Ticket(Digits::of(line, 7).bytes()),
+            [b'w', ..] => Vector::Write(Digits::of(line, 6).byte(), Digits::of(line, 9).bytes()),
             [b'v', ..] => Vector::Value(Digits::of(line, 6).byte(), Digits::of(line, 9).ticket()),
             [b's', ..] => Vector::Same(Digits::of(line, 5).ticket(), Digits::of(line, 68).ticket()),
-            [b'r', ..] => Vector::Request(Digits::of(line, 8).bytes(alloc)?),
-            _ => return Ok(None),
-        }))
+            [b'r', ..] => Vector::Request(Digits::of(line, 8).bytes()),
+            _ => return None,
+        })
     }
+}
 
-    fn answer(&self, alloc: Global) -> Result<String, AllocError> {
-        match self {
-            Vector::Ticket(record) => read_answer(
-                alloc,
-                record::read_ticket(record),
-                ticket_fields,
-            ),
-            Vector::Write(size, record) => {
-                let ticket = record::read_ticket(record).unwrap_or(record::blank_ticket());
-                written_answer(alloc, ticket, *size)
+// The answer to a vector.
+#[derive(Drop)]
+struct Answer(Vector);
+
+impl fmt::Display for Answer {
+    fn fmt<W: fmt::Write>(&self, f: &mut fmt::Formatter<W>) -> fmt::Result {
+        match &self.0 {
+            Vector::Ticket(record) => {
+                let reading = record::read_ticket(record.as_slice());
+                write!(f, "{}", Reading(reading.map(TicketFields)))
             }
-            Vector::Value(size, ticket) => written_answer(alloc, *ticket, *size),
-            Vector::Same(left, right) => format!(in alloc; "{}", u8::from(left == right)),
+            Vector::Write(size, record) => {
+                let reading = record::read_ticket(record.as_slice());
+                let ticket = reading.unwrap_or(record::blank_ticket());
+                write!(f, "{}", Written(ticket, *size))
+            }
+            Vector::Value(size, ticket) => write!(f, "{}", Written(*ticket, *size)),
+            Vector::Same(left, right) => write!(f, "{}", u8::from(left == right)),
             Vector::Request(bytes) => {
-                read_answer(alloc, record::read_request(bytes), request_fields)
+                let reading = record::read_request(bytes.as_slice());
+                write!(f, "{}", Reading(reading.map(RequestFields)))
             }
         }
     }
 }
 
 // ---- Words of a line.
+
+// The bytes of a record or a request.
+// Form: an array with a length and no Vec, since the program runs without an allocator (D138).
+#[derive(Drop)]
+struct Word {
+    bytes: [u8; LONGEST_WORD],
+    length: usize,
+    ghost within: { length ≤ LONGEST_WORD },
+}
+
+impl Word {
+    fn as_slice(&self) -> &[u8] {
+        &self.bytes[..self.length]
+    }
+}
 
 // The digits that a line has from a position on.
 #[derive(Clone, Copy)]
@@ -101,12 +121,14 @@ impl<'a> Digits<'a> {
     }
 
     // The bytes of all digits, two a byte.
-    fn bytes(self, alloc: Global) -> Result<Vec<u8>, AllocError> {
-        self.rest
-            .chunks_exact(2)
-            .take(LONGEST_WORD)
-            .map(|rest| Digits { rest }.byte())
-            .collect(alloc)
+    fn bytes(self) -> Word {
+        let pairs = self.rest.chunks_exact(2);
+        let length = pairs.len().min(LONGEST_WORD);
+        let mut bytes = [0; LONGEST_WORD];
+        for (byte, rest) in bytes.iter_mut().zip(pairs) {
+            *byte = Digits { rest }.byte();
+        }
+        Word { bytes, length }
     }
 
     // Takes the digits of some bytes from the front.
@@ -166,118 +188,160 @@ fn digit_value(digit: u8) -> u8
 
 // ---- Words of an answer.
 
-// Two digits a byte, or `-` where there is none.
-fn spelled(alloc: Global, bytes: &[u8]) -> Result<String, AllocError> {
-    if bytes.is_empty() {
-        return String::from_str(alloc, "-");
+// Bytes, two digits each, or `-` where there is none.
+#[derive(Clone, Copy)]
+struct Spelled<'a>(&'a [u8]);
+
+impl fmt::Display for Spelled<'_> {
+    fn fmt<W: fmt::Write>(&self, f: &mut fmt::Formatter<W>) -> fmt::Result {
+        if self.0.is_empty() {
+            return write!(f, "-");
+        }
+        for byte in self.0 {
+            write!(f, "{byte:02x}")?;
+        }
+        Ok(())
     }
-    hex::encode(alloc, bytes)
 }
 
 // What a reader answers: the refusal's number, or 0 and the fields of what it reads.
-fn read_answer<T: Drop, F: FnOnce(Global, T) -> Result<String, AllocError>>(
-    alloc: Global,
-    reading: Result<T, Error>,
-    fields: F,
-) -> Result<String, AllocError>
-    requires { F.IsAlwaysCallable fields }
-{
-    match reading {
-        Ok(read) => format!(in alloc; "0 {}", fields(alloc, read)?),
-        Err(error) => format!(in alloc; "{}", u32::from(error)),
+#[derive(Clone, Copy)]
+struct Reading<T>(Result<T, Error>);
+
+impl<T: fmt::Display> fmt::Display for Reading<T> {
+    fn fmt<W: fmt::Write>(&self, f: &mut fmt::Formatter<W>) -> fmt::Result {
+        match &self.0 {
+            Ok(fields) => write!(f, "0 {fields}"),
+            Err(error) => write!(f, "{}", u32::from(*error)),
+        }
     }
 }
 
 // The fields of a ticket: back numbers that there are none of as 0, and of the trail its accounts.
-fn ticket_fields(alloc: Global, ticket: Ticket) -> Result<String, AllocError> {
-    let origin = match ticket.origin {
-        Origin::Initial => "initial",
-        Origin::Direct(_) => "direct",
-        Origin::S4U2self(_) => "self",
-        Origin::Delegated(_, _) => "delegated",
-    };
-    let accounts = &ticket.trail[..usize::from(ticket.hops).min(TRAIL_LIMIT)];
-    format!(in alloc;
-        "number={} flags={:08x} client={} service={} start={} end={} origin={origin} tgt={} evidence={} trail={} barred={}",
-        ticket.number,
-        ticket.flags,
-        ticket.client,
-        ticket.service,
-        ticket.window.start,
-        ticket.window.end,
-        record::tgt_of(ticket.origin),
-        record::evidence_of(ticket.origin),
-        spelled(alloc, accounts)?,
-        u8::from(ticket.barred)
-    )
+#[derive(Clone, Copy)]
+struct TicketFields(Ticket);
+
+impl fmt::Display for TicketFields {
+    fn fmt<W: fmt::Write>(&self, f: &mut fmt::Formatter<W>) -> fmt::Result {
+        let ticket = self.0;
+        let origin = match ticket.origin {
+            Origin::Initial => "initial",
+            Origin::Direct(_) => "direct",
+            Origin::S4U2self(_) => "self",
+            Origin::Delegated(_, _) => "delegated",
+        };
+        let accounts = &ticket.trail[..usize::from(ticket.hops).min(TRAIL_LIMIT)];
+        write!(
+            f,
+            "number={} flags={:08x} client={} service={} start={} end={} origin={origin} tgt={} evidence={} trail={} barred={}",
+            ticket.number,
+            ticket.flags,
+            ticket.client,
+            ticket.service,
+            ticket.window.start,
+            ticket.window.end,
+            record::tgt_of(ticket.origin),
+            record::evidence_of(ticket.origin),
+            Spelled(accounts),
+            u8::from(ticket.barred)
+        )
+    }
 }
 
-// What the writer answers for an output of so many bytes, and the output after it.
-fn written_answer(alloc: Global, ticket: Ticket, size: u8) -> Result<String, AllocError> {
-    let size = usize::from(size);
-    if size > LONGEST_OUTPUT {
-        return Ok(String::new(alloc));
-    }
-    let mut output = vec![in alloc; 0xEE; size]?;
-    let answer = record::write_ticket(ticket, &mut output);
-    let output = spelled(alloc, &output)?;
-    match answer {
-        Ok(length) => format!(in alloc; "{length} {output}"),
-        Err(error) => format!(in alloc; "{} {output}", u32::from(error)),
+// What the writer answers of a ticket for an output of so many bytes, and the output after it.
+#[derive(Clone, Copy)]
+struct Written(Ticket, u8);
+
+impl fmt::Display for Written {
+    fn fmt<W: fmt::Write>(&self, f: &mut fmt::Formatter<W>) -> fmt::Result {
+        let Written(ticket, size) = *self;
+        let mut space = [0xEE; LONGEST_OUTPUT];
+        let Some(output) = space.get_mut(..usize::from(size)) else {
+            return Ok(());
+        };
+        match record::write_ticket(ticket, output) {
+            Ok(length) => write!(f, "{length} {}", Spelled(output)),
+            Err(error) => write!(f, "{} {}", u32::from(error), Spelled(output)),
+        }
     }
 }
 
 // The fields of a request: a ticket by its number, a name by where it starts and how many bytes it has.
-fn request_fields(alloc: Global, request: Request) -> Result<String, AllocError> {
-    let Request {
-        kind,
-        options,
-        pac_options,
-        till,
-        tgt,
-        evidence,
-        user,
-        service,
-    } = request;
-    format!(in alloc;
-        "kind={} options={options:08x} pac={pac_options:08x} till={till} tgt={} evidence={} user={}+{} service={}+{}",
-        u8::from(kind),
-        tgt.number,
-        evidence.number,
-        user.at,
-        user.len,
-        service.at,
-        service.len
-    )
+#[derive(Clone, Copy)]
+struct RequestFields(Request);
+
+impl fmt::Display for RequestFields {
+    fn fmt<W: fmt::Write>(&self, f: &mut fmt::Formatter<W>) -> fmt::Result {
+        let Request {
+            kind,
+            options,
+            pac_options,
+            till,
+            tgt,
+            evidence,
+            user,
+            service,
+        } = self.0;
+        write!(
+            f,
+            "kind={} options={options:08x} pac={pac_options:08x} till={till} tgt={} evidence={} user={}+{} service={}+{}",
+            u8::from(kind),
+            tgt.number,
+            evidence.number,
+            user.at,
+            user.len,
+            service.at,
+            service.len
+        )
+    }
 }
 
 // ---- Lines.
 
+// Takes the next byte of the input; there is none where it has ended.
+// Form: by hand and by no `bytes` or `read_until`, which try a read again that a signal interrupts (D58).
+fn next_byte(input: &mut impl BufRead) -> io::Result<Option<u8>> {
+    let byte = input.fill_buf()?.first().copied();
+    if byte.is_some() {
+        input.consume(1);
+    }
+    Ok(byte)
+}
+
+// Reads a line into a space, without the byte that ends it; it is empty where the input has ended.
+// Form: the space is lent and no Vec is made, since the program runs without an allocator (D138).
+fn read_line<'a>(
+    input: &mut impl BufRead,
+    space: &'a mut [u8; LONGEST_LINE],
+) -> io::Result<&'a [u8]> {
+    for (at, place) in space.iter_mut().enumerate() {
+        match next_byte(input)? {
+            None | Some(b'\n') => return Ok(&space[..at]),
+            Some(byte) => *place = byte,
+        }
+    }
+    Ok(space)
+}
+
 // Prints a line and its answer.
-fn answer_line(rt: &impl Print, alloc: Global, line: &[u8]) -> io::Result<()> {
+fn answer_line(rt: &impl Print, line: &[u8]) -> io::Result<()> {
     rt.write_all(line)?;
-    match Vector::parse(alloc, line)? {
-        Some(vector) => println!(rt; " -> {}", vector.answer(alloc)?),
+    match Vector::parse(line) {
+        Some(vector) => println!(rt; " -> {}", Answer(vector)),
         None => println!(rt; " -> ?"),
     }
 }
 
 // Form: the turns are counted, since nothing says that an input ends, and every loop has to.
 fn main(rt: HostRuntime) -> io::Result<()> {
-    let alloc = rt.alloc();
-    let mut input = BufReader::new(alloc, rt.reader())?;
-    let mut line = Vec::new(alloc);
+    let mut input = rt.reader();
+    let mut space = [0; LONGEST_LINE];
     for _ in 0..u64::MAX {
-        line.clear();
-        input
-            .by_ref()
-            .take(LONGEST_LINE as u64)
-            .read_until(b'\n', &mut line)?;
-        line.pop_if(|byte| *byte == b'\n');
+        let line = read_line(&mut input, &mut space)?;
         if line.is_empty() {
             break;
         }
-        answer_line(&rt, alloc, &line)?;
+        answer_line(&rt, line)?;
     }
     Ok(())
 }
