@@ -1,21 +1,26 @@
 // The calls that a line can make, and how they are read from its words.
-use crate::failure::{Failure, Wrong};
+use crate::failure::Wrong;
 use crate::lines::LONGEST_LINE;
 use definitions::{Edit, Kind, Settings};
 use rules::CNAME_IN_ADDL_TKT;
-use std::alloc::Global;
 use std::num::TryFromIntError;
-use std::str;
+use std::{array, str};
 
 // The length of the longest name that a request has room for.
 pub(crate) const LONGEST_NAME: usize = 255;
+
+// The bytes that the longest line has room for, each of two digits.
+pub(crate) const LONGEST_BYTES: usize = LONGEST_LINE / 2;
+
+// The words behind a command that are looked at: as many as the longest call has, and one by which a line has too many.
+const ARGUMENTS: usize = 8;
 
 #[derive(Drop)]
 pub(crate) enum Command<'a> {
     Fresh,
     Edit(Edit<'a>),
     Find(&'a [u8]),
-    Request(Request),
+    Request(Request<'a>),
     Clear(u32),
     Descent(u32),
     Total,
@@ -25,59 +30,88 @@ pub(crate) enum Command<'a> {
 
 impl<'a> Command<'a> {
     // The call of a line.
-    pub(crate) fn parse(alloc: Global, line: &'a [u8]) -> Result<Self, Failure> {
+    pub(crate) fn parse(line: &'a [u8]) -> Result<Self, Wrong> {
         if line.len() > LONGEST_LINE {
-            return Err(Wrong::Long.into());
+            return Err(Wrong::Long);
         }
-        let words: Vec<&[u8]> = line.split(|byte| *byte == b' ').collect(alloc)?;
-        let [command, arguments @ ..] = words.as_slice() else {
-            return Err(Wrong::Command.into());
-        };
-        match *command {
-            b"fresh" => Ok(Command::Fresh.alone(arguments)?),
-            b"edit" => Ok(Command::Edit(edit(arguments)?)),
-            b"find" => Ok(Command::Find(only(arguments)?)),
-            b"request" => Ok(Command::Request(Request::parse(alloc, arguments)?)),
-            b"clear" => Ok(Command::Clear(number(only(arguments)?)?)),
-            b"descent" => Ok(Command::Descent(number(only(arguments)?)?)),
-            b"total" => Ok(Command::Total.alone(arguments)?),
-            b"ledger" => Ok(Command::Ledger.alone(arguments)?),
-            b"initial" => Ok(Command::Form(Form::parse(Kind::Initial, arguments)?)),
-            b"direct" => Ok(Command::Form(Form::parse(Kind::Direct, arguments)?)),
-            b"self" => Ok(Command::Form(Form::parse(Kind::S4U2self, arguments)?)),
-            b"proxy" => Ok(Command::Form(Form::parse(Kind::S4U2proxy, arguments)?)),
-            _ => Err(Wrong::Command.into()),
+        let mut words = Words(Some(line));
+        match words.next() {
+            Some(b"fresh") => Command::Fresh.alone(&mut words),
+            Some(b"edit") => Ok(Command::Edit(edit(&mut words)?)),
+            Some(b"find") => Ok(Command::Find(only(&mut words)?)),
+            Some(b"request") => Ok(Command::Request(Request::parse(&mut words)?)),
+            Some(b"clear") => Ok(Command::Clear(number(only(&mut words)?)?)),
+            Some(b"descent") => Ok(Command::Descent(number(only(&mut words)?)?)),
+            Some(b"total") => Command::Total.alone(&mut words),
+            Some(b"ledger") => Command::Ledger.alone(&mut words),
+            Some(b"initial") => Ok(Command::Form(Form::parse(Kind::Initial, &mut words)?)),
+            Some(b"direct") => Ok(Command::Form(Form::parse(Kind::Direct, &mut words)?)),
+            Some(b"self") => Ok(Command::Form(Form::parse(Kind::S4U2self, &mut words)?)),
+            Some(b"proxy") => Ok(Command::Form(Form::parse(Kind::S4U2proxy, &mut words)?)),
+            _ => Err(Wrong::Command),
         }
     }
 
     // A call that has no arguments.
-    fn alone(self, arguments: &[&[u8]]) -> Result<Self, Wrong> {
-        if arguments.is_empty() {
-            Ok(self)
-        } else {
-            Err(Wrong::Words)
+    fn alone(self, words: &mut Words<'_>) -> Result<Self, Wrong> {
+        match words.next() {
+            None => Ok(self),
+            Some(_) => Err(Wrong::Words),
         }
     }
 }
 
-// A request as it is sent, and the length of its output.
+// The words of a line that are not yet taken: what is left of it, where anything is.
 #[derive(Drop)]
-pub(crate) struct Request {
-    pub(crate) clock: u32,
-    pub(crate) room: usize,
-    pub(crate) bytes: Vec<u8>,
+struct Words<'a>(Option<&'a [u8]>);
+
+impl<'a> Words<'a> {
+    // Takes the next word.
+    fn next(&mut self) -> Option<&'a [u8]> {
+        let mut parts = self.0?.splitn(2, |byte| *byte == b' ');
+        let word = parts.next();
+        self.0 = parts.next();
+        word
+    }
+
+    // Takes the words that are looked at, each where it is there.
+    // Form: an array of them and no Vec, since the program runs without an allocator (D138).
+    fn arguments(&mut self) -> [Option<&'a [u8]>; ARGUMENTS] {
+        array::from_fn(|_| self.next())
+    }
 }
 
-impl Request {
-    fn parse(alloc: Global, arguments: &[&[u8]]) -> Result<Self, Failure> {
-        let &[clock, room, bytes] = arguments else {
-            return Err(Wrong::Words.into());
+// A request as it is sent, still spelled in hexadecimal, and the length of its output.
+#[derive(Clone, Copy)]
+pub(crate) struct Request<'a> {
+    pub(crate) clock: u32,
+    pub(crate) room: usize,
+    spelled: &'a [u8],
+}
+
+impl<'a> Request<'a> {
+    fn parse(words: &mut Words<'a>) -> Result<Self, Wrong> {
+        let [Some(clock), Some(room), Some(spelled), None, ..] = words.arguments() else {
+            return Err(Wrong::Words);
         };
         Ok(Request {
             clock: number(clock)?,
             room: number(room)?,
-            bytes: decoded(alloc, bytes)?,
+            spelled,
         })
+    }
+
+    // The bytes that are spelled, written into the room.
+    pub(crate) fn bytes<'b>(self, room: &'b mut [u8; LONGEST_BYTES]) -> Result<&'b [u8], Wrong> {
+        match self.spelled {
+            b"" => Err(Wrong::Bytes),
+            b"-" => Ok(&[]),
+            spelled => {
+                let bytes = room.get_mut(..spelled.len() / 2).ok_or(Wrong::Bytes)?;
+                hex::decode_to_slice(spelled, bytes).map_err(|_| Wrong::Bytes)?;
+                Ok(bytes)
+            }
+        }
     }
 }
 
@@ -96,30 +130,49 @@ pub(crate) struct Form<'a> {
 
 impl<'a> Form<'a> {
     // A request of a kind. Behind the name stand words that need not be there: a hop's PAC options are between its options and its till.
-    fn parse(kind: Kind, arguments: &[&'a [u8]]) -> Result<Self, Wrong> {
-        let (clock, tgt, evidence, name, rest) = match (kind, arguments) {
-            (Kind::Initial, [clock, user, rest @ ..]) => (clock, None, None, user, rest),
-            (Kind::Direct | Kind::S4U2self, [clock, tgt, name, rest @ ..]) => {
-                (clock, Some(tgt), None, name, rest)
+    fn parse(kind: Kind, words: &mut Words<'a>) -> Result<Self, Wrong> {
+        let arguments = words.arguments();
+        let (clock, tgt, evidence, name, options, pac_options, till) = match (kind, arguments) {
+            (Kind::Initial, [Some(clock), Some(user), options, till, None, ..]) => {
+                (clock, None, None, user, options, None, till)
             }
-            (Kind::S4U2proxy, [clock, tgt, evidence, service, rest @ ..]) => {
-                (clock, Some(tgt), Some(evidence), service, rest)
-            }
+            (
+                Kind::Direct | Kind::S4U2self,
+                [
+                    Some(clock),
+                    tgt @ Some(_),
+                    Some(name),
+                    options,
+                    till,
+                    None,
+                    ..
+                ],
+            ) => (clock, tgt, None, name, options, None, till),
+            (
+                Kind::S4U2proxy,
+                [
+                    Some(clock),
+                    tgt @ Some(_),
+                    evidence @ Some(_),
+                    Some(service),
+                    options,
+                    pac_options,
+                    till,
+                    None,
+                ],
+            ) => (clock, tgt, evidence, service, options, pac_options, till),
             _ => return Err(Wrong::Words),
         };
-        let (most, usual, pac_options, till) = match kind {
-            Kind::S4U2proxy => (3, Some(CNAME_IN_ADDL_TKT), rest.get(1), rest.get(2)),
-            _ => (2, None, None, rest.get(1)),
+        let usual = match kind {
+            Kind::S4U2proxy => Some(CNAME_IN_ADDL_TKT),
+            _ => None,
         };
-        if rest.len() > most {
-            return Err(Wrong::Words);
-        }
         Ok(Form {
             kind,
             clock: number(clock)?,
             tgt: optional(tgt)?,
             evidence: optional(evidence)?,
-            options: optional(rest.first())?.or(usual),
+            options: optional(options)?.or(usual),
             pac_options: optional(pac_options)?,
             till: optional(till)?,
             name: short(name)?,
@@ -135,8 +188,18 @@ impl<'a> Form<'a> {
 }
 
 // The edit of an account.
-fn edit<'a>(arguments: &[&'a [u8]]) -> Result<Edit<'a>, Wrong> {
-    let &[account, name, flags, send, receive, lifetime] = arguments else {
+fn edit<'a>(words: &mut Words<'a>) -> Result<Edit<'a>, Wrong> {
+    let [
+        Some(account),
+        Some(name),
+        Some(flags),
+        Some(send),
+        Some(receive),
+        Some(lifetime),
+        None,
+        ..
+    ] = words.arguments()
+    else {
         return Err(Wrong::Words);
     };
     Ok(Edit {
@@ -152,9 +215,9 @@ fn edit<'a>(arguments: &[&'a [u8]]) -> Result<Edit<'a>, Wrong> {
 }
 
 // The one argument of a call.
-fn only<'a>(arguments: &[&'a [u8]]) -> Result<&'a [u8], Wrong> {
-    match arguments {
-        [argument] => Ok(argument),
+fn only<'a>(words: &mut Words<'a>) -> Result<&'a [u8], Wrong> {
+    match (words.next(), words.next()) {
+        (Some(argument), None) => Ok(argument),
         _ => Err(Wrong::Words),
     }
 }
@@ -181,7 +244,7 @@ fn whole(word: &[u8]) -> Option<u64> {
 
 // The number of a word that need not be there.
 fn optional<T: TryFrom<u64, Error = TryFromIntError>>(
-    word: Option<&&[u8]>,
+    word: Option<&[u8]>,
 ) -> Result<Option<T>, Wrong> {
     word.map(|word| number(word)).transpose()
 }
@@ -192,14 +255,5 @@ fn short(name: &[u8]) -> Result<&[u8], Wrong> {
         Ok(name)
     } else {
         Err(Wrong::Name)
-    }
-}
-
-// The bytes that a word spells.
-fn decoded(alloc: Global, word: &[u8]) -> Result<Vec<u8>, Failure> {
-    match word {
-        b"" => Err(Wrong::Bytes.into()),
-        b"-" => Ok(Vec::new(alloc)),
-        _ => Ok(hex::decode(alloc, word)?),
     }
 }

@@ -18,11 +18,13 @@
 // A line that is no call changes nothing, and is answered by `? LINE: what is wrong`.
 #![tactic(auto)]
 
+use definitions::LONGEST_RECORD;
 use failure::Failure;
 use lines::Lines;
-use service::Service;
+use service::{Service, record_of};
 use std::io;
-use std::io::{BufRead, BufReader};
+use std::io::Read;
+use value::{Hexadecimal, Value};
 
 mod command;
 mod failure;
@@ -30,13 +32,26 @@ mod lines;
 mod service;
 mod value;
 
+// Prints what a call gives, each line by a write of its own.
+fn print(rt: &impl Print, value: Value<'_>) -> io::Result<()> {
+    println!(rt; "0 {value}")?;
+    if let Value::Tickets(ledger) = value {
+        let places = 0..ledger::count_held(ledger);
+        for ticket in places.filter_map(|place| ledger::held_at(ledger, place)) {
+            let mut output = [0; LONGEST_RECORD];
+            let record = record_of(ticket, &mut output).unwrap_or(&[]);
+            println!(rt; "{}", Hexadecimal(record))?;
+        }
+    }
+    Ok(())
+}
+
 // Makes the call of a line, and prints its answer.
 fn answer(rt: &impl Print, service: &mut Service, line: &[u8], number: u64) -> io::Result<()> {
-    match service.call(line) {
-        Ok(value) => println!(rt; "0 {value}"),
+    match service.call(line, &mut [0; LONGEST_RECORD]) {
+        Ok(value) => print(rt, value),
         Err(Failure::Wrong(wrong)) => println!(rt; "? {number}: {wrong}"),
         Err(refused @ Failure::Refused(_)) => println!(rt; "{refused}"),
-        Err(Failure::Memory(error)) => Err(io::Error::from(error)),
     }
 }
 
@@ -45,7 +60,7 @@ fn answer(rt: &impl Print, service: &mut Service, line: &[u8], number: u64) -> i
 fn serve(
     rt: &impl Print,
     service: &mut Service,
-    lines: &mut Lines<impl BufRead + Drop>,
+    lines: &mut Lines<impl Read + Drop>,
 ) -> io::Result<()> {
     for number in 1..u64::MAX {
         match lines.next_line()? {
@@ -58,7 +73,5 @@ fn serve(
 }
 
 fn main(rt: HostRuntime) -> io::Result<()> {
-    let alloc = rt.alloc();
-    let input = BufReader::new(alloc, rt.reader())?;
-    serve(&rt, &mut Service::new(alloc), &mut Lines::new(alloc, input))
+    serve(&rt, &mut Service::new(), &mut Lines::new(rt.reader()))
 }

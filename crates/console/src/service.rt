@@ -1,48 +1,47 @@
 // The service behind the console: its accounts and its ledger, and the calls that are made of it.
-use crate::command::{Command, Form};
+use crate::command::{Command, Form, LONGEST_BYTES, Request};
 use crate::failure::Failure;
-use crate::value::Value;
+use crate::value::{Hexadecimal, RecordBytes, Value};
 use definitions::{
     ACCOUNT_LIMIT, ACCOUNTS_SIZE, Edit, Error, Kind, LEDGER_SIZE, LONGEST_RECORD, Ticket,
 };
 use ledger::LedgerWords;
 use record::Draft;
 use rules::AccountWords;
-use std::alloc::Global;
 
-// Room for a request that the console writes.
-const REQUEST_ROOM: usize = 4096;
-
-// Room for a request's output.
-const OUTPUT_ROOM: usize = 64;
+// The bytes that the longest request takes, with a record or a name of 255 bytes in each of its four fields (R4.1).
+const LONGEST_REQUEST: usize = 1039;
 
 // Form: `morning` has one of its own; a crate for what the two share, the words and a fresh start, would be no plainer.
 #[derive(Drop)]
 pub(crate) struct Service {
-    alloc: Global,
     accounts: AccountWords,
     ledger: LedgerWords,
 }
 
 impl Service {
     // A fresh service.
-    pub(crate) fn new(alloc: Global) -> Self {
+    pub(crate) fn new() -> Self {
         let mut accounts = [0; ACCOUNTS_SIZE];
         let mut ledger = [0; LEDGER_SIZE];
         ledger::fresh(&mut accounts, &mut ledger);
-        Service {
-            alloc,
-            accounts,
-            ledger,
-        }
+        Service { accounts, ledger }
     }
 
-    // Makes the call of a line.
-    pub(crate) fn call(&mut self, line: &[u8]) -> Result<Value, Failure> {
-        self.perform(Command::parse(self.alloc, line)?)
+    // Makes the call of a line. A record is written into the output.
+    pub(crate) fn call<'a>(
+        &'a mut self,
+        line: &[u8],
+        output: &'a mut RecordBytes,
+    ) -> Result<Value<'a>, Failure> {
+        self.perform(Command::parse(line)?, output)
     }
 
-    fn perform(&mut self, command: Command<'_>) -> Result<Value, Failure> {
+    fn perform<'a>(
+        &'a mut self,
+        command: Command<'_>,
+        output: &'a mut RecordBytes,
+    ) -> Result<Value<'a>, Failure> {
         match command {
             Command::Fresh => {
                 ledger::fresh(&mut self.accounts, &mut self.ledger);
@@ -50,10 +49,7 @@ impl Service {
             }
             Command::Edit(edit) => self.edit(edit),
             Command::Find(name) => self.find(name),
-            Command::Request(request) => {
-                let room = request.room.min(OUTPUT_ROOM);
-                self.request(&request.bytes, request.clock, room)
-            }
+            Command::Request(request) => self.send(request, output),
             Command::Clear(clock) => {
                 Ok(Value::Number(ledger::clear(&mut self.ledger, clock) as u64))
             }
@@ -61,21 +57,18 @@ impl Service {
                 Ok(Value::Number(u64::from(ledger::descent(&self.ledger, number)?)))
             }
             Command::Total => Ok(Value::Number(ledger::day_total(&self.ledger))),
-            Command::Ledger => self.records(),
-            Command::Form(form) => {
-                let bytes = self.write(form)?;
-                self.request(&bytes, form.clock, OUTPUT_ROOM)
-            }
+            Command::Ledger => Ok(Value::Tickets(&self.ledger)),
+            Command::Form(form) => self.send_form(form, output),
         }
     }
 
-    fn edit(&mut self, edit: Edit<'_>) -> Result<Value, Failure> {
+    fn edit(&mut self, edit: Edit<'_>) -> Result<Value<'_>, Failure> {
         ledger::edit(&mut self.accounts, edit)?;
         Ok(Value::Nothing)
     }
 
     // Form: a number that is compared and no Option, since 64 is what R2.11 answers of a name that no account has.
-    fn find(&self, name: &[u8]) -> Result<Value, Failure> {
+    fn find(&self, name: &[u8]) -> Result<Value<'_>, Failure> {
         let number = rules::find_name(&self.accounts, name);
         if number < ACCOUNT_LIMIT {
             Ok(Value::Number(number as u64))
@@ -84,46 +77,49 @@ impl Service {
         }
     }
 
-    // Sends a request, with an output of so many bytes.
-    fn request(&mut self, bytes: &[u8], clock: u32, room: usize) -> Result<Value, Failure> {
-        let record = filled(self.alloc, room, |output| {
-            let granted = ledger::request(
-                &mut self.accounts,
-                &mut self.ledger,
-                bytes,
-                clock,
-                output,
-            )?;
-            Ok(granted.length)
-        })?;
-        Ok(Value::Record(hex::encode(self.alloc, &record)?))
+    // Sends a request that a line spells, with an output that is no longer than the longest record.
+    fn send<'a>(
+        &'a mut self,
+        request: Request<'_>,
+        output: &'a mut RecordBytes,
+    ) -> Result<Value<'a>, Failure> {
+        let mut room = [0; LONGEST_BYTES];
+        let bytes = request.bytes(&mut room)?;
+        let length = request.room.min(LONGEST_RECORD);
+        self.request(bytes, request.clock, &mut output[..length])
     }
 
-    // The records of the tickets that are held.
-    fn records(&self) -> Result<Value, Failure> {
-        let mut records = Vec::new(self.alloc);
-        let places = 0..ledger::count_held(&self.ledger);
-        for ticket in places.filter_map(|place| ledger::held_at(&self.ledger, place)) {
-            let record = self.record(ticket)?;
-            records.push(hex::encode(self.alloc, &record)?)?;
-        }
-        Ok(Value::Records(records))
+    // Sends a request that the console writes.
+    fn send_form<'a>(
+        &'a mut self,
+        form: Form<'_>,
+        output: &'a mut RecordBytes,
+    ) -> Result<Value<'a>, Failure> {
+        let mut room = [0; LONGEST_REQUEST];
+        let bytes = self.write(form, &mut room)?;
+        self.request(bytes, form.clock, output)
     }
 
-    // The record of a ticket.
-    fn record(&self, ticket: Ticket) -> Result<Vec<u8>, Failure> {
-        filled(
-            self.alloc,
-            LONGEST_RECORD,
-            |output| record::write_ticket(ticket, output),
-        )
+    // Sends the bytes of a request, with this output.
+    fn request<'a>(
+        &'a mut self,
+        bytes: &[u8],
+        clock: u32,
+        output: &'a mut [u8],
+    ) -> Result<Value<'a>, Failure> {
+        let granted = ledger::request(&mut self.accounts, &mut self.ledger, bytes, clock, output)?;
+        Ok(Value::Record(Hexadecimal(written(output, granted.length))))
     }
 
     // The record of the ticket of a number, also of one that is not held; no bytes where no ticket is presented.
-    fn presented(&self, number: Option<u16>) -> Result<Vec<u8>, Failure> {
+    fn presented<'a>(
+        &self,
+        number: Option<u16>,
+        output: &'a mut RecordBytes,
+    ) -> Result<&'a [u8], Error> {
         match number {
-            Some(number) => self.record(self.ticket(number)),
-            None => Ok(Vec::new(self.alloc)),
+            Some(number) => record_of(self.ticket(number), output),
+            None => Ok(&[]),
         }
     }
 
@@ -135,10 +131,14 @@ impl Service {
         })
     }
 
-    // The bytes of a request.
-    fn write(&self, form: Form<'_>) -> Result<Vec<u8>, Failure> {
-        let tgt = self.presented(form.tgt)?;
-        let evidence = self.presented(form.evidence)?;
+    // The bytes of a request, written into the room.
+    fn write<'a>(
+        &self,
+        form: Form<'_>,
+        room: &'a mut [u8; LONGEST_REQUEST],
+    ) -> Result<&'a [u8], Error> {
+        let mut tgt = [0; LONGEST_RECORD];
+        let mut evidence = [0; LONGEST_RECORD];
         let (user, service): (&[u8], &[u8]) = match form.kind {
             Kind::Initial | Kind::S4U2self => (form.name, b""),
             Kind::Direct | Kind::S4U2proxy => (b"", form.name),
@@ -148,31 +148,28 @@ impl Service {
             options: form.options.unwrap_or(0),
             pac_options: form.pac_options.unwrap_or(0),
             till: form.till.unwrap_or(0),
-            tgt: &tgt,
-            evidence: &evidence,
+            tgt: self.presented(form.tgt, &mut tgt)?,
+            evidence: self.presented(form.evidence, &mut evidence)?,
             user,
             service,
             fields: form.fields(),
         };
-        filled(
-            self.alloc,
-            REQUEST_ROOM,
-            |output| record::write_request(draft, output),
-        )
+        let length = record::write_request(draft, room)?;
+        Ok(written(room, length))
     }
 }
 
-// The bytes that are written into an output of so many bytes.
-// Form: `morning` has one too, that tells a refusal from a want of memory by its type; here both are a `Failure`. One for both would be a crate for three lines.
-fn filled<F: FnOnce(&mut [u8]) -> Result<usize, Error>>(
-    alloc: Global,
-    room: usize,
-    write: F,
-) -> Result<Vec<u8>, Failure>
-    requires { F.IsAlwaysCallable write }
-{
-    let mut bytes = vec![in alloc; 0; room]?;
-    let length = write(&mut bytes)?;
-    bytes.truncate(length);
-    Ok(bytes)
+// The record of a ticket, written into the output.
+pub(crate) fn record_of<'a>(
+    ticket: Ticket,
+    output: &'a mut RecordBytes,
+) -> Result<&'a [u8], Error> {
+    let length = record::write_ticket(ticket, output)?;
+    Ok(written(output, length))
+}
+
+// What is written at the start of an output.
+// Form: a part of what the caller lends, and no Vec, since the program runs without an allocator (D138).
+fn written(output: &[u8], length: usize) -> &[u8] {
+    &output[..length.min(output.len())]
 }
