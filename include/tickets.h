@@ -12,8 +12,8 @@
  * service may run at the same time only where both take its words as `const`; in every other case the caller lets one end before the next
  * begins.
  *
- * Stack. A call takes some 1 KB at most, but for tickets_descent, which takes some 50 bytes more for each step: at most nine steps in a
- * service that only these functions wrote, and at most 511, some 25 KB, in words that no calls make.
+ * Stack. A call takes some 1 KB at most, but for tickets_descent, which takes some 30 bytes more for each step: at most nine steps in a
+ * service that only these functions wrote, and at most 511, some 16 KB, in words that no calls make.
  *
  * Byte order. Records, requests and saved services are bytes, the same on every machine: their numbers are big-endian. The words of a service are
  * numbers of the machine that holds them. To keep a service, or to take it to another machine, save it; do not write its words out.
@@ -206,7 +206,7 @@ uint32_t tickets_clear(uint64_t *accounts, uint64_t *ledger, uint32_t clock);
  *   does not fall, which does not happen for a ticket that tickets_request granted.
  *
  * It recurses at most once for each step. A ticket that calls made has at most nine steps (R9.2). Words that no calls make have at most 511,
- * which take some 25 KB of stack. */
+ * which take some 16 KB of stack. */
 tickets_answer tickets_descent(const uint64_t *ledger, uint32_t number);
 
 /* The day total: the seconds from start to end of each ticket in the ledger, added up. A ticket whose end is not later than its start
