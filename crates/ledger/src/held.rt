@@ -77,7 +77,7 @@ impl<'a> HeldTickets<'a> {
     }
 
     // Whether a ticket is held: what stands at its number is the very same.
-    // Form: a match and no `is_some_and`, to which the ticket goes over by memory: a hop then takes 3,152 instructions, and so 3,139.
+    // Form: a match and no `is_some_and`, to which the ticket goes over by memory: a hop then takes some 13 instructions more.
     pub(crate) fn holds(self, ticket: Ticket) -> bool
         ensures { result ≡ holds (tickets_of self.entry.words.now) ticket }
     {

@@ -19,7 +19,7 @@ ghost use Rattle.std.specs.Prelude.{◌<◌, ◌≤◌};
 ghost use Rattle.record_vectors.specs.declared.TheConstants.{LONGEST_WORD};
 
 use definitions::{Error, Origin, Request, TRAIL_LIMIT, Ticket, Window};
-use std::io::BufRead;
+use std::io::Read;
 use std::{fmt, io};
 
 // The bytes of the longest line; a longer one is as many lines as it has such parts.
@@ -298,22 +298,17 @@ impl fmt::Display for RequestFields {
 
 // ---- Lines.
 
-// Takes the next byte of the input; there is none where it has ended.
-// Form: by hand and by no `bytes` or `read_until`, which try a read again that a signal interrupts (D58).
-fn next_byte(input: &mut impl BufRead) -> io::Result<Option<u8>> {
-    let byte = input.fill_buf()?.first().copied();
-    if byte.is_some() {
-        input.consume(1);
-    }
-    Ok(byte)
+// Takes the next byte of the input, if there is one, and none behind it.
+// Form: by hand, since a buffer reads ahead (D153), and `bytes` and `read_until` try a read again that a signal interrupts (D58).
+fn next_byte(input: &mut impl Read) -> io::Result<Option<u8>> {
+    let mut byte = [0];
+    let read = input.read(&mut byte)?;
+    Ok((read > 0).then_some(byte[0]))
 }
 
 // Reads a line into a space, without the byte that ends it; it is empty where the input has ended.
 // Form: the space is lent and no Vec is made, since the program runs without an allocator (D138).
-fn read_line<'a>(
-    input: &mut impl BufRead,
-    space: &'a mut [u8; LONGEST_LINE],
-) -> io::Result<&'a [u8]> {
+fn read_line<'a>(input: &mut impl Read, space: &'a mut [u8; LONGEST_LINE]) -> io::Result<&'a [u8]> {
     for (at, place) in space.iter_mut().enumerate() {
         match next_byte(input)? {
             None | Some(b'\n') => return Ok(&space[..at]),
