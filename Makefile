@@ -49,13 +49,15 @@ run: ## proves and builds the console, and starts it: a call a line on standard 
 	@crates/$(PROGRAM)/out/$(PROGRAM)
 
 # `rt ci` takes all processors and removes a library that lies in out/, so the harness follows it. An edit of must-fail/ that could not be tried
-# shows nothing; `rt ci` passes it, and this does not. The closing line of `rt ci` comes last.
+# shows nothing; `rt ci` passes it, and this does not. `rt ci` leaves the programs in out/, and the last test runs them. The closing line of `rt ci`
+# comes last.
 test: ## proves every crate, tries the wrong programs that must be refused, and runs the tests: all that must hold
 	@mkdir -p target
 	rt ci | tee target/ci.log
 	@if grep -Eq '^rt: ok.*, [1-9][0-9]* bad' target/ci.log; then echo 'make test: mend what BAD EDIT above names' >&2; exit 1; fi
 	@if grep -F 'only because a proof file names what the edit took away' target/ci.log; then echo 'make test: that edit shows nothing' >&2; exit 1; fi
 	@$(MAKE) --no-print-directory harness
+	$(CARGO) test $(HARNESS) --features programs --test programs
 	@tail -n 1 target/ci.log | grep -Ex '[0-9]+ passed, 0 failed'
 
 harness bench valgrind: export TICKETS_LIB_DIR = $(CURDIR)/target/staticlib

@@ -228,6 +228,15 @@ fn the_shared_library_is_made_to_be_shared() {
 }
 
 #[test]
+fn the_archive_needs_two_names_from_outside() {
+    let installed = Installed::under("archive");
+    let archive = installed.folder().join("libtickets.a");
+    let names = printed(command("nm").arg("-u").arg(archive));
+    let needed = names.lines().filter_map(|line| line.trim_start().strip_prefix("U "));
+    assert_eq!(BTreeSet::from_iter(needed), BTreeSet::from(["memcpy", "memset"]));
+}
+
+#[test]
 fn the_examples_print_the_morning() {
     let installed = Installed::under("examples");
     let examples = top().join("examples");
