@@ -3,7 +3,7 @@
 //! `record_vectors` leaves behind an empty line; and that each line is a write.
 
 use std::fs::{self, File, OpenOptions};
-use std::io::{Read, Write};
+use std::io::{ErrorKind, Read, Write};
 use std::os::fd::OwnedFd;
 use std::os::unix::net::{UnixDatagram, UnixStream};
 use std::path::{Path, PathBuf};
@@ -14,8 +14,20 @@ use std::time::{Duration, Instant};
 const PROGRAMS: [&str; 3] = ["console", "morning", "record_vectors"];
 
 /// What a program would take memory by.
-const ALLOCATORS: [&str; 7] =
-    ["aligned_alloc", "calloc", "malloc", "memalign", "mmap", "posix_memalign", "realloc"];
+const ALLOCATORS: [&str; 12] = [
+    "aligned_alloc",
+    "brk",
+    "calloc",
+    "free",
+    "malloc",
+    "memalign",
+    "mmap",
+    "mmap64",
+    "posix_memalign",
+    "realloc",
+    "reallocarray",
+    "sbrk",
+];
 
 /// How long a program that does its work may take.
 const PATIENCE: Duration = Duration::from_secs(20);
@@ -38,6 +50,13 @@ fn started(name: &str, input: impl Into<Stdio>, output: impl Into<Stdio>) -> Chi
 fn ended(output: &Output, status: i32, error: &str) {
     assert_eq!(String::from_utf8_lossy(&output.stderr), error);
     assert_eq!(output.status.code(), Some(status));
+}
+
+/// Holds a program to an answer, and to an end without an error.
+fn answered(child: Child, answer: &str) {
+    let output = child.wait_with_output().expect("its end");
+    assert_eq!(String::from_utf8_lossy(&output.stdout), answer);
+    ended(&output, 0, "");
 }
 
 #[test]
@@ -69,13 +88,14 @@ fn a_write_that_fails_ends_each() {
 
 #[test]
 fn what_stands_behind_an_empty_line_is_left() {
-    let (block, rest) = ("ticket -\n\n", "request -\n\nand more");
-    let answer = b"ticket - -> 60\n";
+    // Eleven bytes, a prime number: who reads in pieces, but for those of one byte or of all, takes more.
+    let (block, rest) = ("request -\n\n", "ticket -\n\nand more");
+    let answer = "request - -> 60\n";
     let place = Path::new(env!("CARGO_TARGET_TMPDIR")).join("vectors");
     fs::write(&place, format!("{block}{rest}")).expect("a file");
     let mut file = File::open(&place).expect("the file");
-    let output = started("record_vectors", file.try_clone().expect("the file"), Stdio::piped());
-    assert_eq!(output.wait_with_output().expect("its end").stdout, answer);
+    let child = started("record_vectors", file.try_clone().expect("the file"), Stdio::piped());
+    answered(child, answer);
     let mut left = String::new();
     file.read_to_string(&mut left).expect("what is left");
     assert_eq!(left, rest);
@@ -84,8 +104,7 @@ fn what_stands_behind_an_empty_line_is_left() {
     near.write_all(format!("{block}{rest}").as_bytes()).expect("its input");
     drop(near);
     let input = OwnedFd::from(far.try_clone().expect("the stream"));
-    let output = started("record_vectors", input, Stdio::piped());
-    assert_eq!(output.wait_with_output().expect("its end").stdout, answer);
+    answered(started("record_vectors", input, Stdio::piped()), answer);
     left.clear();
     far.read_to_string(&mut left).expect("what is left");
     assert_eq!(left, rest);
@@ -114,6 +133,9 @@ fn each_line_of_the_console_is_a_write() {
     (0..TICKETS).for_each(|number| assert_eq!(next(), record(number)));
     assert_eq!(next(), format!("? {}: no such command\n", TICKETS + 3));
     ended(&child.wait_with_output().expect("its end"), 0, "");
+    near.set_nonblocking(true).expect("a socket");
+    let behind = near.recv(&mut [0; 256]).map_err(|error| error.kind());
+    assert_eq!(behind, Err(ErrorKind::WouldBlock));
 }
 
 /// Waits until a process is in a state, `S` where it waits for its input, `T` where it is stopped.
